@@ -111,19 +111,3 @@ comes_resumed seed cycle s is own life =
       seed = is ∙ sym (seed_after-append 0 before (reseeds seed ∷ []));
       own = rw (drawn_after-append [] 0 before (reseeds seed ∷ [])) own;
     }
-
--- two clients that come from new ones of one cycle time by the same calls are equal
-pub equal_clients : (a b : State) (t : ℕ) (calls : List Call) → ComesFrom a t calls → ComesFrom b t calls → a ≡ b
-equal_clients a b t calls x y =
-    let k : ℕ = key (seed_of calls) (cycle_of (requests calls)) 255 0 in
-    let p : StandsFor a.own k (drawn_of calls) = rw (← x.seed, ← x.life.cycle) x.own in
-    let q : StandsFor b.own k (drawn_of calls) = rw (← y.seed, ← y.life.cycle) y.own in
-    let own : a.own ≡ b.own = equal_places a.own b.own k (drawn_of calls) p q in
-    λ i. record {
-      cycle_time = (x.cycle_time ∙ sym y.cycle_time) i;
-      last = (x.life.last ∙ sym y.life.last) i;
-      time = (x.life.time ∙ sym y.life.time) i;
-      seed = (x.seed ∙ sym y.seed) i;
-      cycle = (x.life.cycle ∙ sym y.life.cycle) i;
-      own = own i;
-    }

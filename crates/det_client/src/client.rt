@@ -57,7 +57,7 @@ fn own_stream(seed: u64, cycle: u32) -> ElementRandom
 }
 
 /// The own stream in a cycle: the given one, or a new one if no number was drawn yet.
-fn continue_stream(own: Option<ElementRandom>, seed: u64, cycle: u32) -> ElementRandom
+fn continue_own_stream(own: Option<ElementRandom>, seed: u64, cycle: u32) -> ElementRandom
     ensures { (k n : ℕ) → StandsFor (own_place own seed cycle) k n → StandsFor result k n }
 {
     match own {
@@ -257,7 +257,7 @@ impl Client {
         ensures seed { self.new.seed ≡ self.old.seed }
         ensures same { SameButSeed self.old self.new }
     {
-        let mut own = continue_stream(self.own.take(), self.seed, self.cycle);
+        let mut own = continue_own_stream(self.own.take(), self.seed, self.cycle);
         let word = own.get_random();
         self.own = Some(own);
         word

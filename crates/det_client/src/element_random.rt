@@ -1,8 +1,9 @@
-//! Random numbers that depend on seed, cycle, pass and element, and not on the worker.
+//! Random numbers that depend on seed, cycle, pass and element (`PassKeys`), and not on the
+//! worker.
 //!
-//! A key is made of a seed, a cycle, a pass and an element. Each key has its own stream of numbers.
-//! So the numbers of an element don't depend on the order of the work either. The generators are
-//! SplitMix64 for keys and xoshiro256++ for streams.
+//! A key is made of a seed, a cycle, a pass and an element. Each key has its own stream of
+//! numbers. So the numbers of an element don't depend on the order of the work either. The
+//! generators are SplitMix64 for keys and xoshiro256++ for streams.
 
 ghost use Rattle.std.specs.Prelude.{◌≡◌, ℕ, ◌+◌, ◌-◌, ◌^◌, min, [], ◌∷◌};
 ghost use Rattle.rand_xoshiro.specs.Xoshiro256.{state_bytes};

@@ -1,5 +1,5 @@
-//! The deterministic client of one process: its activations, the times of a cycle, the seed, and
-//! its own random numbers.
+//! The deterministic client of one process: its activations, the times of a cycle, the seed, its
+//! own random numbers, and the keys of the numbers of elements.
 //!
 //! Its contracts are about the whole list of calls that were made on it, so two clients with the
 //! same calls return the same results.

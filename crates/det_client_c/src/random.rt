@@ -25,7 +25,7 @@ pub extern "C" fn det_random_key(seed: u64, cycle: u32, pass: u8, element: u32) 
 pub extern "C" fn det_random_of_key(random: &mut DetRandom, key: u64)
     ensures { StandsFor (place_of random.new) key 0 }
 {
-    *random = new_stream(key);
+    *random = random_of_key(key);
 }
 
 /// What the keys of all elements in a pass of a cycle have in common, under a seed.
@@ -44,7 +44,7 @@ pub extern "C" fn det_random_in_pass(random: &mut DetRandom, keys: &DetPassKeys,
     ensures { (seed cycle pass : ℕ) → AreKeysOf (keys_of keys.now) seed cycle pass
         → StandsFor (place_of random.new) (key seed cycle pass element) 0 }
 {
-    *random = new_stream(PassKeys::from_parts(keys.shared, keys.pass).key(element));
+    *random = random_of_key(PassKeys::from_parts(keys.shared, keys.pass).key(element));
 }
 
 /// Draws the next random number.
@@ -60,17 +60,17 @@ pub extern "C" fn det_random_next(random: &mut DetRandom) -> u64
 }
 
 /// The stream of a key, from its start.
-fn new_stream(key: u64) -> DetRandom
+fn random_of_key(key: u64) -> DetRandom
     ensures { StandsFor (place_of result) key 0 }
 {
     DetRandom {
-        state: first_state(key),
+        state: stream_state_of_key(key),
         draws: 0,
     }
 }
 
 /// The first state of a key: the first four numbers of SplitMix64 from it.
-fn first_state(key: u64) -> [u64; 4]
+fn stream_state_of_key(key: u64) -> [u64; 4]
     ensures { result ≡ state_at key 0 }
 {
     let mut words = SplitMix64::seed_from_u64(key);

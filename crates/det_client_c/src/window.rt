@@ -66,12 +66,12 @@ pub extern "C" fn det_window_arrive(window: &mut DetWindow, places: &mut [i64], 
     ensures behind { drop (2 * window.old.capacity) places.new
         ≡ drop (2 * window.old.capacity) places.old }
 {
-    if !fits(window, places) || !is_sample(value) {
+    if !fits(window, places) || !is_window_sample(value) {
         return false;
     }
     let capacity = usize::from(window.capacity);
     let waiting = &mut places[capacity..2 * capacity];
-    window.arriving = push_to_ring(waiting, window.arriving, value);
+    window.arriving = push_to_window_ring(waiting, window.arriving, value);
     true
 }
 
@@ -97,8 +97,8 @@ pub extern "C" fn det_window_turn(window: &mut DetWindow, places: &mut [i64]) ->
     if !fits(window, places) {
         return false;
     }
-    let gone = leaving_count(window);
-    move_arrived(window, places, gone);
+    let gone = leaving_samples(window);
+    move_arrived_samples(window, places, gone);
     true
 }
 
@@ -115,7 +115,7 @@ fn fits(window: &DetWindow, places: &[i64]) -> bool
 }
 
 /// Whether an event may have this value.
-fn is_sample(value: i64) -> bool
+fn is_window_sample(value: i64) -> bool
     ensures { IsTrue result ↔ IsSampleValue value }
 {
     -1_000_000_000_000 <= value && value <= 1_000_000_000_000
@@ -123,7 +123,7 @@ fn is_sample(value: i64) -> bool
 
 /// Adds a value after the first `held` of a ring. If the ring is full, the oldest value is dropped.
 /// Returns how many values the ring holds then.
-fn push_to_ring(ring: &mut [i64], held: u16, value: i64) -> u16
+fn push_to_window_ring(ring: &mut [i64], held: u16, value: i64) -> u16
     requires some { 0 < length ring.old }
     requires few { length ring.old ≤ 1024 }
     requires held { held ≤ length ring.old }
@@ -143,7 +143,7 @@ fn push_to_ring(ring: &mut [i64], held: u16, value: i64) -> u16
 }
 
 /// How many values leave a window at a turn.
-fn leaving_count(window: &DetWindow) -> u16
+fn leaving_samples(window: &DetWindow) -> u16
     requires seen { window.now.seen ≤ window.now.capacity }
     requires arriving { window.now.arriving ≤ window.now.capacity }
     requires capacity { window.now.capacity ≤ 1024 }
@@ -159,7 +159,7 @@ fn leaving_count(window: &DetWindow) -> u16
 }
 
 /// Drops the first `gone` values of a window, and appends those that arrived.
-fn move_arrived(window: &mut DetWindow, places: &mut [i64], gone: u16)
+fn move_arrived_samples(window: &mut DetWindow, places: &mut [i64], gone: u16)
     requires fits { FitsIn places.old window.old }
     requires gone { gone ≤ window.old.seen }
     requires room { window.old.seen - gone + window.old.arriving ≤ window.old.capacity }

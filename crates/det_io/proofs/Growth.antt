@@ -1,13 +1,13 @@
 -- The growth of the bytes that a sink took, write after write.
-use Rattle.std.proofs.Common.{◌≡◌, ℕ, ◌+◌, ◌<◌, List, [], ◌++◌, length, take, append_assoc, arith, refl, sym}
+use Rattle.std.proofs.Common.{ℕ, ◌+◌, ◌<◌, List, [], ◌++◌, length, take, append_assoc, arith}
 use Rattle.std.proofs.lemmas.List.{append-nil}
 use Rattle.std.proofs.Math.Seq.{take-add}
 use Rattle.std.specs.List.{between}
 use Rattle.std.proofs.lemmas.Slice.{between_to_end}
-use Rattle.det_io.specs.Prefix.{IsPrefix, IsProperPrefix}
+use Rattle.det_io.specs.Prefix.{IsPrefix}
 use Rattle.det_io.specs.Sink.{Grew, Same, GrewByPrefix, GrewShort}
 use Rattle.det_io.proofs.Prefixes.{prefix-none, prefix-same, prefix-take, prefix-then, prefix-behind, proper-prefix, proper-take}
-use Rattle.det_io.proofs.Prefixes.{proper-then, proper-behind, prefix-then-proper}
+use Rattle.det_io.proofs.Prefixes.{proper-then, proper-behind}
 
 -- what stays grew by nothing
 pub grew-none : (took : List ℕ → Type 0) → Grew took took []
@@ -33,18 +33,6 @@ same-grew p = record { each = λ m h. rw append-nil (p.kept m h) }
 pub same-none : (took : List ℕ → Type 0) → Same took took
 same-none took = record { kept = λ m h. h; no_more = λ m h. h }
 
--- what is as before twice is as before over both
-pub same-then : {before mid after : List ℕ → Type 0} → Same before mid → Same mid after → Same before after
-same-then p q = record { kept = λ m h. q.kept m (p.kept m h); no_more = λ m h. p.no_more m (q.no_more m h) }
-
--- a sink that took exactly a list now took that list with the growth after it
-pub grew-told : {before after : List ℕ → Type 0} {a : List ℕ} (m : List ℕ) → Grew before after a → before m → after (m ++ a)
-grew-told m p h = p.each m h
-
--- if a sink keeps its bytes, they grew by exactly these
-pub grew-kept : (old new : List ℕ) {a : List ℕ} → Grew (λ m. m ≡ old) (λ m. m ≡ new) a → new ≡ old ++ a
-grew-kept old new p = sym (p.each old refl)
-
 -- growth by all the bytes is growth by a prefix of them
 pub part-whole : (before after : List ℕ → Type 0) (bytes : List ℕ) → Grew before after bytes → GrewByPrefix before after bytes
 part-whole before after bytes p = (bytes, prefix-same bytes, p)
@@ -67,11 +55,6 @@ pub grew-then-part : (before mid after : List ℕ → Type 0) (a b : List ℕ) �
     → GrewByPrefix before after (a ++ b)
 grew-then-part before mid after a b p q = (a ++ q.0, prefix-behind a q.0 b q.1, grew-then p q.2)
 
--- what grew by a prefix and then stayed grew by a prefix
-pub part-then-same : (before mid after : List ℕ → Type 0) (bytes : List ℕ) → GrewByPrefix before mid bytes → Same mid after
-    → GrewByPrefix before after bytes
-part-then-same before mid after bytes p q = (p.0, p.1, grew-same p.2 q)
-
 -- growth by a proper prefix is growth by a prefix
 pub short-part : (before after : List ℕ → Type 0) (bytes : List ℕ) → GrewShort before after bytes → GrewByPrefix before after bytes
 short-part before after bytes p = (p.0, proper-prefix p.0 bytes p.1, p.2)
@@ -85,11 +68,6 @@ short-of bytes d lt p = (take d bytes, proper-take d bytes lt, p)
 pub short-wider : (before after : List ℕ → Type 0) (bytes all : List ℕ) → GrewShort before after bytes → IsPrefix bytes all
     → GrewShort before after all
 short-wider before after bytes all p q = (p.0, proper-then p.0 bytes all p.1 q, p.2)
-
--- growth by a prefix of a proper prefix is growth by a proper prefix of the whole
-pub part-short : (before after : List ℕ → Type 0) (bytes all : List ℕ) → GrewByPrefix before after bytes → IsProperPrefix bytes all
-    → GrewShort before after all
-part-short before after bytes all p q = (p.0, prefix-then-proper p.0 bytes all p.1 q, p.2)
 
 -- growth by some bytes and then by a proper prefix of others is growth by a proper prefix of both in a row
 pub grew-then-short : (before mid after : List ℕ → Type 0) (a b : List ℕ) → Grew before mid a → GrewShort mid after b

@@ -1,22 +1,13 @@
 -- Names that are opened one after another, and reads between them.
-use Rattle.std.proofs.Common.{◌≡◌, ◌≢◌, ◌<◌, ◌≤◌, ℕ, List, [], ◌++◌, append_assoc, refl, sym, ◌∙◌, ap, arith}
+use Rattle.std.proofs.Common.{◌≡◌, ◌≢◌, ◌<◌, ℕ, List, [], ◌++◌, append_assoc, sym, ◌∙◌, ap, arith}
 use Rattle.std.proofs.lemmas.List.{append-nil}
 use Rattle.std.specs.Prelude.{Some}
-use Rattle.det_io.specs.Prefix.{IsPrefix}
-use Rattle.det_io.specs.Shelf.{ShelfState, Reads, Opens, SlotsStay, Asks, AsksPrefix}
-use Rattle.det_io.proofs.Prefixes.{prefix-none, prefix-same, prefix-behind, prefix-then}
+use Rattle.det_io.specs.Shelf.{ShelfState, Opens, Asks, AsksPrefix}
+use Rattle.det_io.proofs.Prefixes.{prefix-none, prefix-same, prefix-behind}
 
 -- a shelf whose names stay was asked for none
 pub asks-kept : {before after : ShelfState} → after.asked ≡ before.asked → Asks before after []
 asks-kept same = record { told = λ all h. (all, sym same ∙ h, append-nil all) }
-
--- a shelf that stays was asked for no name
-pub asks-none : (state : ShelfState) → Asks state state []
-asks-none state = asks-kept refl
-
--- a shelf that was read was asked for no name
-pub asks-reads : {before after : ShelfState} {slot : ℕ} {bytes : List ℕ} → Reads before after slot bytes → Asks before after []
-asks-reads p = asks-kept p.asked
 
 -- names asked for one after another are asked for in this order
 pub asks-then : {before mid after : ShelfState} {a b : List (List ℕ)} → Asks before mid a → Asks mid after b → Asks before after (a ++ b)
@@ -32,16 +23,6 @@ pub asks-then-kept : {before mid after : ShelfState} {names : List (List ℕ)} �
     → Asks before after names
 asks-then-kept p same = record { told = λ all h. p.told all (sym same ∙ h) }
 
--- reads before opens ask for no further name
-pub kept-then-asks : {before mid after : ShelfState} {names : List (List ℕ)} → mid.asked ≡ before.asked → Asks mid after names
-    → Asks before after names
-kept-then-asks same p = record { told = λ all h. let t = p.told all h in (t.0, sym same ∙ t.1, t.2) }
-
--- if a shelf is asked for no name and its names are known afterwards, they were the same before
-pub asks-no-name : {before after : ShelfState} (all : List (List ℕ)) → Asks before after [] → after.asked ≡ Some all
-    → before.asked ≡ Some all
-asks-no-name all p h = let t = p.told all h in t.1 ∙ ap Some (sym (append-nil t.0) ∙ t.2)
-
 -- all the names are a prefix of themselves
 pub asks-all : (before after : ShelfState) (names : List (List ℕ)) → Asks before after names → AsksPrefix before after names
 asks-all before after names p = (names, prefix-same names, p)
@@ -55,33 +36,10 @@ pub asks-then-prefix : (before mid after : ShelfState) (a b : List (List ℕ)) �
     → AsksPrefix before after (a ++ b)
 asks-then-prefix before mid after a b p q = (a ++ q.0, prefix-behind a q.0 b q.1, asks-then p q.2)
 
--- a prefix of a prefix of the names is a prefix of the names
-pub asks-prefix-wider : (before after : ShelfState) (a b : List (List ℕ)) → AsksPrefix before after a → IsPrefix a b
-    → AsksPrefix before after b
-asks-prefix-wider before after a b p q = (p.0, prefix-then p.0 a b p.1 q, p.2)
-
--- reads after opens leave the prefix of the names
-pub asks-prefix-then-kept : (before mid after : ShelfState) (names : List (List ℕ)) → AsksPrefix before mid names → after.asked ≡ mid.asked
-    → AsksPrefix before after names
-asks-prefix-then-kept before mid after names p same = (p.0, p.1, asks-then-kept p.2 same)
-
--- slots stay if nothing happens
-pub slots-stay-same : (state : ShelfState) → SlotsStay state state
-slots-stay-same state = record { slots = refl; left = refl }
-
--- slots that stay twice stay over both
-pub slots-stay-then : {before mid after : ShelfState} → SlotsStay before mid → SlotsStay mid after → SlotsStay before after
-slots-stay-then p q = record { slots = q.slots ∙ p.slots; left = q.left ∙ p.left }
-
 -- an open leaves the rest of an earlier slot unchanged
 pub opens-other : {before after : ShelfState} {name : List ℕ} {slot : ℕ} (k : ℕ) → Opens before after name slot → k < before.slots
     → after.left k ≡ before.left k
 opens-other k p h = p.others k (λ e. let n = p.number in omega arith)
-
--- an open leaves the slots given earlier, and the new slot is one more
-pub opens-given : {before after : ShelfState} {name : List ℕ} {slot : ℕ} (k : ℕ) → Opens before after name slot → k ≤ before.slots
-    → k < after.slots
-opens-given k p h = rw p.slots (omega arith)
 
 -- the new slot is given
 pub opens-new : {before after : ShelfState} {name : List ℕ} {slot : ℕ} → Opens before after name slot → slot < after.slots

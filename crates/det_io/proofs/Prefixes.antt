@@ -45,10 +45,6 @@ pub proper-length : {X : Type 0} (a b : List X) → IsProperPrefix a b → lengt
 proper-length a b p = rw (← p.1) (let n = length-append a p.0 in let some : (length p.0 ≡ 0 → ⊥) =
     (λ z. p.2 (length-none p.0 z)) in omega arith)
 
--- a proper prefix isn't the whole list
-pub proper-differs : {X : Type 0} (a b : List X) → IsProperPrefix a b → a ≢ b
-proper-differs a b p e = let n = proper-length a b p in let m = ap length e in omega arith
-
 -- a prefix that isn't the whole list is a proper one
 pub proper-of : {X : Type 0} (a b : List X) → IsPrefix a b → a ≢ b → IsProperPrefix a b
 proper-of a b p ne = (p.0, p.1, λ none. ne (sym (append-nil a) ∙ ap (λ l. a ++ l) (sym none) ∙ p.1))
@@ -75,7 +71,3 @@ prefix-then-proper a b c p q = proper-of a c (prefix-then a b c p (q.0, q.1))
 -- a proper prefix stays a proper prefix after the same items
 pub proper-behind : {X : Type 0} (a b c : List X) → IsProperPrefix b c → IsProperPrefix (a ++ b) (a ++ c)
 proper-behind a b c p = (p.0, append_assoc a b p.0 ∙ ap (λ l. a ++ l) p.1, p.2)
-
--- a list followed by some items is a proper prefix of all
-pub proper-append : {X : Type 0} (front rest : List X) → rest ≢ [] → IsProperPrefix front (front ++ rest)
-proper-append front rest ne = (rest, refl, ne)

@@ -2,10 +2,9 @@
 use Rattle.std.proofs.Common.{◌≡◌, ◌≢◌, ◌<◌, ◌⊎◌, inl, inr, ℕ, eqb, true, false, List, [], ◌++◌, append_assoc, refl, sym, ◌∙◌, ap}
 use Rattle.std.proofs.lemmas.Bool.Decides.{eqb_tells}
 use Rattle.std.proofs.lemmas.List.{append-nil}
-use Rattle.std.specs.Prelude.{Option, Some, None, Result, Ok, Err}
+use Rattle.std.specs.Prelude.{Option, Some, None}
 use Rattle.std.specs.Option.{option_map}
-use Rattle.det_io.specs.Shelf.{ShelfState, Reads, Gave, Kept, IsAtEnd, moved}
-use Rattle.det_io.specs.declared.faults.ShelfFailed.{ShelfFailed}
+use Rattle.det_io.specs.Shelf.{ShelfState, Reads, Gave, Kept, IsAtEnd}
 
 append_twice : (a b : List ℕ) (o : Option (List ℕ))
     → option_map (λ rest. a ++ rest) (option_map (λ rest. b ++ rest) o) ≡ option_map (λ rest. (a ++ b) ++ rest) o
@@ -31,11 +30,6 @@ reads-then {after = after} {slot = slot} {a = a} {b = b} p q = record {
   others = λ k ne. q.others k ne ∙ p.others k ne;
 }
 
--- a read that failed or moved nothing, after other reads, leaves the bytes that they read
-pub reads-then-none : {before mid after : ShelfState} {slot : ℕ} {a : List ℕ} → Reads before mid slot a → Reads mid after slot []
-    → Reads before after slot a
-reads-then-none {before = before} {after = after} {slot = slot} p q = let r = reads-then p q in rw append-nil at r
-
 append_none_is : (o : Option (List ℕ)) → option_map (λ rest. [] ++ rest) o ≡ o
 append_none_is (Some rest) = refl
 append_none_is None = refl
@@ -47,16 +41,6 @@ reads-nothing {before = before} {after = after} {slot = slot} p k = at (eqb_tell
     at : ((eqb k slot ≡ true) × (k ≡ slot)) ⊎ ((eqb k slot ≡ false) × (k ≢ slot)) → after.left k ≡ before.left k
     at (inl same) = rw same.1 (sym (p.left ∙ append_none_is (after.left slot)))
     at (inr other) = p.others k other.1
-
--- a failed read moved nothing
-pub moved-err : (answer : Result ℕ ShelfFailed) (buf : List ℕ) (e : ShelfFailed) → answer ≡ Err e → moved answer buf ≡ []
-moved-err (Ok n) buf e h = cc
-moved-err (Err d) buf e h = refl
-
--- a read leaves the rest of another slot unchanged
-pub reads-other : {before after : ShelfState} {slot : ℕ} {bytes : List ℕ} (other : ℕ) → Reads before after slot bytes → other ≢ slot
-    → after.left other ≡ before.left other
-reads-other other p ne = p.others other ne
 
 -- the condition on a slot stays true over a read
 pub reads-given : {before after : ShelfState} {slot : ℕ} {bytes : List ℕ} (k : ℕ) → Reads before after slot bytes → k < before.slots
@@ -88,11 +72,6 @@ pub gave-reads : {before mid after : ShelfState} {slot : ℕ} {a b : List ℕ} �
     → Gave before after slot (a ++ b)
 gave-reads {after = after} {slot = slot} {a = a} {b = b} p q =
     record { left = p.left ∙ ap (option_map (λ rest. a ++ rest)) q.left ∙ append_twice a b (after.left slot) }
-
--- the bytes that a slot gave stay over a read of another
-pub gave-other : {before mid after : ShelfState} {slot other : ℕ} {a b : List ℕ} → Gave before mid slot a → Reads mid after other b
-    → slot ≢ other → Gave before after slot a
-gave-other {slot = slot} {a = a} p q ne = record { left = p.left ∙ ap (option_map (λ rest. a ++ rest)) (sym (q.others slot ne)) }
 
 -- a slot that gave these bytes had them at the front of its rest
 pub gave-told : {before after : ShelfState} {slot : ℕ} {bytes : List ℕ} (all : List ℕ) → Gave before after slot bytes

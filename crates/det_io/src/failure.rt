@@ -22,17 +22,6 @@ pub enum Stopped<E> {
     Failed(Failure),
 }
 
-impl From<ShelfFailed> for Failure {
-    ghost use Rattle.std.specs.Prelude.{◌≡◌};
-    ghost use Rattle.det_io.specs.declared.failure.Failure.TheVariants.{Read};
-
-    ghost from_gives = { λ _ failure. failure ≡ Read };
-
-    fn from(_: ShelfFailed) -> Failure {
-        Failure::Read
-    }
-}
-
 impl From<SinkFailed> for Failure {
     ghost use Rattle.std.specs.Prelude.{◌≡◌};
     ghost use Rattle.det_io.specs.declared.failure.Failure.TheVariants.{Write};

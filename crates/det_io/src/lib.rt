@@ -1,9 +1,9 @@
-//! Bytes in and out: shelves, whose slots are read, and sinks, which are written. The commands take
-//! any shelf and any sink, so a test can run them on memory and let chosen calls fail.
+//! Bytes in and out: shelves, whose slots are read, and sinks, which are written, over files and
+//! streams and in memory with planned failures. The commands take any shelf and any sink, so a
+//! test can run them on memory and let chosen calls fail.
 #![tactic(auto)]
 
 mod bounded_read;
-mod copy_front;
 mod dir_shelf;
 mod discard;
 mod failure;
@@ -11,6 +11,7 @@ mod faults;
 mod mem_shelf;
 mod mem_sink;
 mod planned_calls;
+mod read_memory;
 mod reserved_push;
 mod retries;
 mod shelf;

@@ -147,7 +147,7 @@ impl Slots for MemShelf {
             return Err(ShelfFailed);
         }
         let place = self.slots[slot as usize];
-        let n = lookup::copy_from(self.files.as_slice(), place, buf, self.most);
+        let n = lookup::copy_file_bytes(self.files.as_slice(), place, buf, self.most);
         self.slots[slot as usize] = FilePlace {
             file: place.file,
             at: place.at + n,

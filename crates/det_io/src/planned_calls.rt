@@ -16,7 +16,7 @@ pub struct PlannedCalls {
 }
 
 /// Whether the next call is to fail. Past the last u64 no call is.
-fn is_next_listed(fails: &[u64], made: u64) -> bool
+fn is_next_call_listed(fails: &[u64], made: u64) -> bool
     ensures { result ≡ is_listed fails.now (made + 1) }
 {
     match made.checked_add(1) {
@@ -32,7 +32,7 @@ impl PlannedCalls {
         ensures counted { self.new.made ≡ next_count self.old.made }
         ensures list { self.new.fails ≡ self.old.fails }
     {
-        let fails = is_next_listed(self.fails.as_slice(), self.made);
+        let fails = is_next_call_listed(self.fails.as_slice(), self.made);
         self.made = self.made.saturating_add(1);
         fails
     }

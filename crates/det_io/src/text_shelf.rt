@@ -1,7 +1,7 @@
 //! One text in memory as slot 0, for readers that take slots.
 ghost use Rattle.std.specs.Prelude.{◌≤◌, length};
 
-use crate::copy_front::copy_front;
+use crate::read_memory::read_memory;
 use crate::{ShelfFailed, Slots};
 use det_values::Bytes;
 
@@ -59,7 +59,7 @@ impl Slots for TextShelf {
     {
         let _ = slot;
         let rest = &self.bytes.as_slice()[self.at..];
-        let n = copy_front(rest, buf, usize::MAX);
+        let n = read_memory(rest, buf, usize::MAX);
         self.at += n;
         Ok(n)
     }

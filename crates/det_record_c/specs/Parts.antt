@@ -1,6 +1,6 @@
 -- The result of a call that writes a part, and what the call changes.
-use Rattle.std.specs.Prelude.{◌≡◌, ◌↔◌, ℕ, ◌≤◌, List, [], ◌∷◌, ◌++◌, length, take, drop, Result}
-use Rattle.std.specs.Prelude.{Ok, Err}
+use Rattle.std.specs.Prelude.{◌≡◌, ◌≢◌, ◌↔◌, ℕ, ◌≤◌, List, [], ◌∷◌, ◌++◌, length, take, drop}
+use Rattle.std.specs.Prelude.{Result, Ok, Err}
 use Rattle.record_grammar.specs.declared.place.Place.TheVariants as places
 use Rattle.record_grammar.specs.declared.item.Item.{Item}
 use Rattle.record_grammar.specs.declared.item.Item.TheVariants as items
@@ -62,6 +62,12 @@ pub record ReportsFirst (answer : ℕ) (follows sound fits : Type 0) : Type 0 wh
 abbrev pub ReportsCause : ℕ → DetRecord → Item → Type 0 → List ℕ → Type 0
 ReportsCause answer r item sound out =
     ReportsFirst answer (CanFollow (place_of r) item) sound (Fits r item out)
+
+-- what a call returns for an item, and what it changes: the item is added, or nothing is changed
+pub record Reports (answer : ℕ) (item : Item) (sound : Type 0) (old new : CallState) : Type 0 where
+  pub cause : ReportsCause answer old.state item sound old.out
+  pub done : answer ≡ 0 → IsAdded item old new
+  pub kept : answer ≢ 0 → new ≡ old
 
 -- ---- the same, inside
 

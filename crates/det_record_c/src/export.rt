@@ -5,13 +5,13 @@
 //!
 //! A part is checked as a whole, its place first, before memory is asked for. So a value out of
 //! range is reported whatever memory there is.
-ghost use Rattle.std.specs.Prelude.{◌≡◌, ◌≢◌, []};
+ghost use Rattle.std.specs.Prelude.{[]};
 ghost use Rattle.record_grammar.specs.declared.item.Item.TheVariants as items;
 ghost use Rattle.det_values.specs.declared.frames.Frame.TheVariants as frames;
 ghost use Rattle.det_record_c.specs.CValues.{header_of, init_of, finished_of, refused_of};
 ghost use Rattle.det_record_c.specs.Ranges.{IsSoundHeader, AreSoundElements, IsSoundFinish};
 ghost use Rattle.det_record_c.specs.Ranges.{IsSoundRefusal};
-ghost use Rattle.det_record_c.specs.Parts.{Written, call_state, IsAdded, ReportsCause};
+ghost use Rattle.det_record_c.specs.Parts.{Written, call_state, Reports};
 
 use crate::c_types::{DetElement, DetEvent, DetProfile, DetRefusal, DetSample, DetTime};
 use crate::cause::answer;
@@ -43,12 +43,9 @@ pub extern "C" fn det_record_header(
     out: &mut [u8],
     written: &mut usize,
 ) -> u8
-    ensures cause { ReportsCause result state.old (header_of profile.now params.now events.now)
-        (IsSoundHeader profile.now params.now events.now) out.old }
-    ensures done { result ≡ 0 → IsAdded (header_of profile.now params.now events.now)
+    ensures { Reports result (header_of profile.now params.now events.now)
+        (IsSoundHeader profile.now params.now events.now)
         (call_state state.old out.old written.old) (call_state state.new out.new written.new) }
-    ensures kept { result ≢ 0 →
-        call_state state.new out.new written.new ≡ call_state state.old out.old written.old }
 {
     let made = checked_item::header(alloc, state, profile, params, events);
     answer(write_checked_item(alloc, state, made, out, written))
@@ -62,11 +59,8 @@ pub extern "C" fn det_record_register(
     out: &mut [u8],
     written: &mut usize,
 ) -> u8
-    ensures cause { ReportsCause result state.old (items.Frame frames.Register) (Unit {0}) out.old }
-    ensures done { result ≡ 0 → IsAdded (items.Frame frames.Register)
+    ensures { Reports result (items.Frame frames.Register) (Unit {0})
         (call_state state.old out.old written.old) (call_state state.new out.new written.new) }
-    ensures kept { result ≢ 0 →
-        call_state state.new out.new written.new ≡ call_state state.old out.old written.old }
 {
     let made = checked_item::register(state);
     answer(write_checked_item(alloc, state, made, out, written))
@@ -80,11 +74,8 @@ pub extern "C" fn det_record_discover(
     out: &mut [u8],
     written: &mut usize,
 ) -> u8
-    ensures cause { ReportsCause result state.old (items.Frame frames.Discover) (Unit {0}) out.old }
-    ensures done { result ≡ 0 → IsAdded (items.Frame frames.Discover)
+    ensures { Reports result (items.Frame frames.Discover) (Unit {0})
         (call_state state.old out.old written.old) (call_state state.new out.new written.new) }
-    ensures kept { result ≢ 0 →
-        call_state state.new out.new written.new ≡ call_state state.old out.old written.old }
 {
     let made = checked_item::discover(state);
     answer(write_checked_item(alloc, state, made, out, written))
@@ -99,12 +90,8 @@ pub extern "C" fn det_record_init(
     out: &mut [u8],
     written: &mut usize,
 ) -> u8
-    ensures cause { ReportsCause result state.old (init_of elements.now)
-        (AreSoundElements elements.now) out.old }
-    ensures done { result ≡ 0 → IsAdded (init_of elements.now)
+    ensures { Reports result (init_of elements.now) (AreSoundElements elements.now)
         (call_state state.old out.old written.old) (call_state state.new out.new written.new) }
-    ensures kept { result ≢ 0 →
-        call_state state.new out.new written.new ≡ call_state state.old out.old written.old }
 {
     let made = checked_item::init(alloc, state, elements);
     answer(write_checked_item(alloc, state, made, out, written))
@@ -122,13 +109,9 @@ pub extern "C" fn det_record_finished(
     out: &mut [u8],
     written: &mut usize,
 ) -> u8
-    ensures cause { ReportsCause result state.old
-        (finished_of time.now samples.now elements.now output.now)
-        (IsSoundFinish state.old.events samples.now elements.now output.now) out.old }
-    ensures done { result ≡ 0 → IsAdded (finished_of time.now samples.now elements.now output.now)
+    ensures { Reports result (finished_of time.now samples.now elements.now output.now)
+        (IsSoundFinish state.old.events samples.now elements.now output.now)
         (call_state state.old out.old written.old) (call_state state.new out.new written.new) }
-    ensures kept { result ≢ 0 →
-        call_state state.new out.new written.new ≡ call_state state.old out.old written.old }
 {
     let made = checked_item::finished(alloc, state, time, samples, elements, output);
     answer(write_checked_item(alloc, state, made, out, written))
@@ -145,12 +128,9 @@ pub extern "C" fn det_record_refused(
     out: &mut [u8],
     written: &mut usize,
 ) -> u8
-    ensures cause { ReportsCause result state.old (refused_of time.now samples.now refusal.now)
-        (IsSoundRefusal state.old.events samples.now refusal.now) out.old }
-    ensures done { result ≡ 0 → IsAdded (refused_of time.now samples.now refusal.now)
+    ensures { Reports result (refused_of time.now samples.now refusal.now)
+        (IsSoundRefusal state.old.events samples.now refusal.now)
         (call_state state.old out.old written.old) (call_state state.new out.new written.new) }
-    ensures kept { result ≢ 0 →
-        call_state state.new out.new written.new ≡ call_state state.old out.old written.old }
 {
     let made = checked_item::refused(alloc, state, time, samples, refusal);
     answer(write_checked_item(alloc, state, made, out, written))
@@ -164,11 +144,8 @@ pub extern "C" fn det_record_terminate(
     out: &mut [u8],
     written: &mut usize,
 ) -> u8
-    ensures cause { ReportsCause result state.old (items.Frame frames.Terminate) (Unit {0}) out.old }
-    ensures done { result ≡ 0 → IsAdded (items.Frame frames.Terminate)
+    ensures { Reports result (items.Frame frames.Terminate) (Unit {0})
         (call_state state.old out.old written.old) (call_state state.new out.new written.new) }
-    ensures kept { result ≢ 0 →
-        call_state state.new out.new written.new ≡ call_state state.old out.old written.old }
 {
     let made = checked_item::terminate(state);
     answer(write_checked_item(alloc, state, made, out, written))

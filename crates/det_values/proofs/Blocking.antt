@@ -1,6 +1,6 @@
 -- The contents of a container's blocks: the length, the block and the element at an index.
 use Rattle.std.proofs.Common.{◌≡◌, ℕ, zero, suc, ◌+◌, ◌*◌, ◌/◌, ◌%◌, ◌<◌, ◌≤◌, List, [], ◌∷◌, ◌++◌, length, take, drop, get_or, slice_range}
-use Rattle.std.proofs.Common.{min, ◌-◌, refl}
+use Rattle.std.proofs.Common.{min, ◌-◌}
 use Rattle.std.proofs.Common.{sym, ap, ◌∙◌, arith, length-append, length-drop}
 use Rattle.std.specs.declared.vec.Vec.{Vec}
 use Rattle.std.specs.Vec.{vec_len}
@@ -133,17 +133,13 @@ module _ {E : Type 0} where
     length-by_last (c ∷ bs) k h.1 (omega arith),
   )
 
-  pub held_length : {Z : Type 0} (vs : List (Vec E Z)) (n : ℕ) (v : Vec E Z) → n ≡ length vs → 0 < n → AreBlocks (block_items vs)
-      → v ≡ get_or vs (n - 1) v → length (joined (block_items vs)) ≡ 256 * (n - 1) + length v.items
-  held_length {Z} vs n v l lt h at =
+  pub held_length : {Z : Type 0} (vs : List (Vec E Z)) (n k : ℕ) (v : Vec E Z) → n ≡ length vs → 0 < n → AreBlocks (block_items vs)
+      → v ≡ get_or vs (n - 1) v → k ≡ vec_len v → length (joined (block_items vs)) ≡ 256 * (n - 1) + k
+  held_length {Z} vs n k v l lt h at len =
       let m : length (block_items vs) ≡ n = length-map vs (λ (u : Vec E Z). u.items) ∙ sym l in
       let b : v.items ≡ get_or (block_items vs) (n - 1) [] = held_at vs (n - 1) v (omega (arith, l)) at in
-      omega (arith, length-by_last (block_items vs) (n - 1) h (omega (arith, m)), ap length b)
+      omega (arith, len, v.ok.0, length-by_last (block_items vs) (n - 1) h (omega (arith, m)), ap length b)
 
   pub held_before : {Z : Type 0} (vs : List (Vec E Z)) (n : ℕ) → n ≡ length vs → 0 < n → AreBlocks (block_items vs)
       → 256 * (n - 1) < length (joined (block_items vs))
   held_before {Z} vs n l lt h = before-last (block_items vs) (n - 1) h (omega (arith, l, length-map vs (λ (u : Vec E Z). u.items)))
-
-  pub none_held : {Z : Type 0} (vs : List (Vec E Z)) → length vs ≡ 0 → length (joined (block_items vs)) ≡ 0
-  none_held [] e = refl
-  none_held (v ∷ vs) e = absurd (omega (arith, e))

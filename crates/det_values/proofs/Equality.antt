@@ -83,3 +83,6 @@ frame_decides (Init es) (Init fs) =
     Decides-like (pointwise (pointwise nat_eq) es fs) (ap Init) (λ s. cc) (pointwise_decides (pointwise_decides Decides-eqb) es fs)
 frame_decides (Run r) (Run s) = Decides-like (run.eq-value.it r s) (ap Run) (λ e. cc) (run_decides r s)
 frame_decides a b = (λ h. absurd cc, λ h. absurd cc)
+
+-- what the law of equality states
+pub ruleset deciders = (elements_decide, input_decides, outcome_decides, run_decides, frame_decides, profile_decides)

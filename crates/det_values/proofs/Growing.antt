@@ -2,10 +2,11 @@
 use Rattle.std.proofs.Common.{◌≡◌, ℕ, zero, suc, ◌+◌, ◌-◌, ◌*◌, ◌%◌, ◌<◌, ◌≤◌, List, [], ◌∷◌, ◌++◌, length, get_or, set, sym, ap, subst}
 use Rattle.std.proofs.Common.{◌∙◌}
 use Rattle.std.proofs.Common.{arith, length-append, append_assoc}
+use Rattle.std.specs.Prelude.{Ok, Err}
 use Rattle.std.specs.declared.vec.Vec.{Vec}
 use Rattle.std.proofs.lemmas.List.{append-nil, length-map, map-set, map-append}
 use Rattle.std.proofs.Math.Seq.{map-set_same}
-use Rattle.det_values.specs.Blocks.{joined, IsBlock, AreBlocks, HasRoom, AreFull, block_items}
+use Rattle.det_values.specs.Blocks.{joined, IsBlock, AreBlocks, HasRoom, AreFull, block_items, Adds}
 use Rattle.det_values.proofs.Blocking.{held_at, length-by_last}
 
 module _ {E : Type 0} where
@@ -83,9 +84,16 @@ module _ {E : Type 0} where
       → Behind (block_items vs) (block_items (set vs (n - 1) w)) (e ∷ [])
   last_pushed {Z} vs n v w e l h room at is = last_extended vs n v w (e ∷ []) l h room (omega arith) at is
 
-  pub last_kept : {Z : Type 0} (vs : List (Vec E Z)) (k : ℕ) (v w : Vec E Z) → v ≡ get_or vs k v → w.items ≡ v.items
-      → block_items (set vs k w) ≡ block_items vs
-  last_kept {Z} vs k v w at is = map-set_same (λ (u : Vec E Z). u.items) vs k w v (is ∙ ap (λ (u : Vec E Z). u.items) at)
+  pub last_kept : {Z A F : Type 0} (f : F) (vs : List (Vec E Z)) (k : ℕ) (v w : Vec E Z) (es : List E) → AreBlocks (block_items vs)
+      → v ≡ get_or vs k v → w.items ≡ v.items → Adds {A = A} (Err f) vs (set vs k w) es
+  last_kept {Z} f vs k v w es h at is =
+      let same : block_items (set vs k w) ≡ block_items vs =
+      map-set_same (λ (u : Vec E Z). u.items) vs k w v (is ∙ ap (λ (u : Vec E Z). u.items) at) in
+      record { blocks = subst AreBlocks (sym same) h; ok = tt; err = ap joined same }
+
+  pub added : {Z A F : Type 0} (a : A) (vs new : List (Vec E Z)) (es : List E) → Behind (block_items vs) (block_items new) es
+      → Adds {F = F} (Ok a) vs new es
+  added a vs new es h = record { blocks = h.blocks; ok = h.elements; err = tt }
 
   pub block_behind : {Z : Type 0} (vs new : List (Vec E Z)) (b : Vec E Z) → AreFull (block_items vs) → 0 < length b.items
       → length b.items ≤ 256 → new ≡ vs ++ b ∷ [] → Behind (block_items vs) (block_items new) b.items

@@ -29,10 +29,14 @@ module _ {E : Type 0} where
       ∙ sym (append_assoc c (joined (d ∷ bs)) more)
 
   -- no block is longer than all
-  pub within : (bs : List (List E)) (k : ℕ) (b : List E) → k < length bs → b ≡ get_or bs k b → length b ≤ length (joined bs)
+  within : (bs : List (List E)) (k : ℕ) (b : List E) → k < length bs → b ≡ get_or bs k b → length b ≤ length (joined bs)
   within [] k b lt e = absurd (omega arith)
   within (c ∷ bs) zero b lt e = omega (arith, ap length e, length-append c (joined bs))
   within (c ∷ bs) (suc k) b lt e = omega (arith, length-append c (joined bs), within bs k b (omega arith) e)
+
+  pub last_within : (bs : List (List E)) (n m : ℕ) (b : List E) → 0 < length bs → n ≡ m → m ≡ length bs → b ≡ get_or bs (n - 1) b
+      → length b ≤ length (joined bs)
+  last_within bs n m b some l k e = within bs (n - 1) b (omega (arith, some, l, k)) e
 
   -- one block more, and the number of elements with it
   pub counted_behind : (new bs : List (List E)) (b : List E) (n m : ℕ) → new ≡ bs ++ b ∷ [] → n ≡ length (joined bs) → m ≡ length b
@@ -46,20 +50,6 @@ module _ {E : Type 0} where
         ap length (joined_behind bs b),
         length-append (joined bs) b,
       )
-
-  -- the last block taken
-  pub record Parted (bs new : List (List E)) (b : List E) (n m : ℕ) : Type 0 where
-    pub elements : joined bs ≡ joined new ++ b
-    pub fewer : m ≤ n
-    pub counted : n - m ≡ length (joined new)
-    pub few : n - m ≤ 65536
-
-  pub split_bytes : (bs new : List (List E)) (b : List E) (n m : ℕ) → bs ≡ new ++ b ∷ [] → (n ≡ length (joined bs)) × (n ≤ 65536)
-      → m ≡ length b → Parted bs new b n m
-  split_bytes bs new b n m is h d =
-      let e : joined bs ≡ joined new ++ b = ap joined is ∙ joined_behind new b in
-      let l : n ≡ length (joined new) + m = omega (arith, h.0, d, ap length e, length-append (joined new) b) in
-      record { elements = e; fewer = omega (arith, l); counted = omega (arith, l); few = omega (arith, h.1) }
 
   -- as code does it
 

@@ -3,11 +3,11 @@ use Rattle.std.proofs.Common.{◌≡◌, ℕ, zero, suc, ◌+◌, ◌-◌, ◌<�
 use Rattle.std.proofs.Common.{append_assoc, arith, length-append, length-drop, lit<}
 use Rattle.std.specs.List.{All}
 use Rattle.std.proofs.Math.Seq.{take-append_seam, drop-append_seam}
-use Rattle.std.proofs.lemmas.List.{append-nil, take-append-drop, nil_from_length, length-map}
+use Rattle.std.proofs.lemmas.List.{append-nil, nil_from_length, length-map}
 use Rattle.std.proofs.lemmas.List.Elements.{All-nil, All-cons, All-head, All-tail}
 use Rattle.det_values.specs.declared.frames.DrawnElement.{DrawnElement}
 use Rattle.det_values.specs.Spelling.{spelled_u16, spelled_u32, spelled_drawn, spelled_all, IsDrawn, IsFlat, elements_in, after_first}
-use Rattle.det_values.specs.Spelling.{BeginsWith, FirstAt, NoneAt}
+use Rattle.det_values.specs.Spelling.{FirstAt, NoneAt}
 use Rattle.det_values.specs.Frames.{without_draws, all_without_draws}
 use Rattle.det_values.proofs.FlatReading.{behind_is, length-elements_in, held, Holds, holds}
 use Rattle.det_values.proofs.Fronts.{drawn_length, length_u32}
@@ -185,25 +185,6 @@ undrawing_done count old new i at le h =
     let b : elements_in count old ≡ h.before = h.parts ∙ ap (λ (xs : List DrawnElement). h.before ++ xs) n ∙ append-nil h.before in
     h.spelling ∙ ap (λ (xs : List DrawnElement). spelled_all (all_without_draws h.before) ++ spelled_all xs) n
     ∙ append-nil (spelled_all (all_without_draws h.before)) ∙ ap (λ (xs : List DrawnElement). spelled_all (all_without_draws xs)) (sym b)
-
-pub first_at : (bytes behind : List ℕ) (at : ℕ) (e : DrawnElement) → at ≤ length bytes → BeginsWith e behind (drop at bytes)
-    → FirstAt bytes at (length bytes - length behind)
-first_at bytes behind at e le b =
-    let front : List ℕ = take at bytes ++ spelled_drawn e in
-    let s : bytes ≡ front ++ behind = sym (take-append-drop at bytes) ∙ ap (λ (xs : List ℕ). take at bytes ++ xs) b.spelling
-    ∙ sym (append_assoc (take at bytes) (spelled_drawn e) behind) in
-    let n : length bytes - length behind ≡ length front = omega (arith, ap length s, length-append front behind) in
-    let d : drop (length bytes - length behind) bytes ≡ behind = ap (λ (k : ℕ). drop k bytes) n ∙ ap (drop (length front)) s
-    ∙ drop-append_seam front behind in
-    record {
-      element = e;
-      begins = record {
-        fields = b.fields;
-        spelling = b.spelling
-            ∙ ap (λ (xs : List ℕ). spelled_drawn e ++ xs) (sym d);
-      };
-      within = omega arith;
-    }
 
 all_still : (es : List DrawnElement) → All IsDrawn es → All IsDrawn (all_without_draws es)
 all_still [] h = All-nil IsDrawn

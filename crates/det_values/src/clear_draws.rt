@@ -18,7 +18,7 @@ fn fill_zero(bytes: &mut [u8], at: usize)
 }
 
 /// The end of the element that begins at index `at`, or None if none begins there.
-fn end_of_first(bytes: &[u8], at: usize) -> Option<usize>
+fn drawn_element_end(bytes: &[u8], at: usize) -> Option<usize>
     requires { at ≤ length bytes.now }
     ensures some { IfSome result (FirstAt bytes.now at) }
     ensures none { IfNone result (NoneAt bytes.now at) }
@@ -36,7 +36,7 @@ pub fn clear_all_draws(bytes: &mut [u8], count: u32)
 {
     let mut at = 0;
     for _ in 0..count {
-        match end_of_first(bytes, at) {
+        match drawn_element_end(bytes, at) {
             Some(end) => {
                 fill_zero(bytes, end - 4);
                 at = end;

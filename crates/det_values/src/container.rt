@@ -4,7 +4,9 @@ ghost use Rattle.std.specs.Prelude.{drop};
 ghost use Rattle.std.specs.Prelude.{slice_index_or, OnOk, OnErr, IfOk, IsTrue, ◌↔◌};
 ghost use Rattle.det_values.specs.Blocks.{joined, AreBlocks, block_items};
 
-use crate::container_blocks::{add_block, add_to_last, append_to_last, has_room, try_push};
+use crate::container_blocks::{
+    add_block, add_to_last, append_to_last, last_block_has_room, try_push,
+};
 use crate::{OutOfMemory, Spares};
 use std::alloc::Global;
 use std::marker::Model;
@@ -129,7 +131,7 @@ impl<E> Container<E> {
         ensures ok { OnOk result (self.new ≡ self.old ++ item ∷ []) }
         ensures err { OnErr result (self.new ≡ self.old) }
     {
-        if has_room(&self.blocks) {
+        if last_block_has_room(&self.blocks) {
             add_to_last(&mut self.blocks, item)
         } else {
             add_block(&mut self.blocks, alloc, item)
@@ -147,7 +149,7 @@ impl<E> Container<E> {
         ensures ok { OnOk result (self.new ≡ self.old ++ block.items) }
         ensures err { OnErr result (self.new ≡ self.old) }
     {
-        if has_room(&self.blocks) {
+        if last_block_has_room(&self.blocks) {
             return append_to_last(&mut self.blocks, block, spares);
         }
         if try_push(&mut self.blocks, block) {

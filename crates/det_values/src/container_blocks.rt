@@ -1,7 +1,7 @@
 //! The steps that add elements to the blocks of a `Container`, on the plain list of blocks.
-ghost use Rattle.std.specs.Prelude.{◌≡◌, ◌+◌, ◌≤◌, ◌%◌, ◌++◌, ◌∷◌, [], length, OnOk, OnErr};
+ghost use Rattle.std.specs.Prelude.{◌≡◌, ◌+◌, ◌≤◌, ◌%◌, ◌++◌, ◌∷◌, [], length};
 ghost use Rattle.std.specs.Bool.{OnTrue, OnFalse};
-ghost use Rattle.det_values.specs.Blocks.{joined, AreBlocks, HasRoom, AreFull, block_items};
+ghost use Rattle.det_values.specs.Blocks.{joined, AreBlocks, HasRoom, AreFull, block_items, Adds};
 
 use crate::{OutOfMemory, Spares};
 use std::alloc::Global;
@@ -15,7 +15,7 @@ pub(crate) fn try_push<T: Drop>(items: &mut Vec<T>, item: T) -> bool
 }
 
 /// Whether the last block isn't full.
-pub(crate) fn has_room<E>(blocks: &Vec<Vec<E>>) -> bool
+pub(crate) fn last_block_has_room<E>(blocks: &Vec<Vec<E>>) -> bool
     requires { AreBlocks (block_items blocks.now.items) }
     ensures yes { OnTrue result (HasRoom (block_items blocks.now.items)) }
     ensures no { OnFalse result (AreFull (block_items blocks.now.items)) }
@@ -34,12 +34,7 @@ pub(crate) fn has_room<E>(blocks: &Vec<Vec<E>>) -> bool
 pub(crate) fn add_to_last<E: Drop>(blocks: &mut Vec<Vec<E>>, item: E) -> Result<(), OutOfMemory>
     requires blocks { AreBlocks (block_items blocks.old.items) }
     requires room { HasRoom (block_items blocks.old.items) }
-    ensures blocks { AreBlocks (block_items blocks.new.items) }
-    ensures ok { OnOk result (joined (block_items blocks.new.items)
-        ≡ joined (block_items blocks.old.items)
-        ++ item ∷ []) }
-    ensures err { OnErr result (joined (block_items blocks.new.items)
-        ≡ joined (block_items blocks.old.items)) }
+    ensures { Adds result blocks.old.items blocks.new.items (item ∷ []) }
 {
     let count = blocks.len();
     let last = &mut blocks[count - 1];
@@ -57,12 +52,7 @@ pub(crate) fn add_block<E: Drop>(
 ) -> Result<(), OutOfMemory>
     requires blocks { AreBlocks (block_items blocks.old.items) }
     requires full { AreFull (block_items blocks.old.items) }
-    ensures blocks { AreBlocks (block_items blocks.new.items) }
-    ensures ok { OnOk result (joined (block_items blocks.new.items)
-        ≡ joined (block_items blocks.old.items)
-        ++ item ∷ []) }
-    ensures err { OnErr result (joined (block_items blocks.new.items)
-        ≡ joined (block_items blocks.old.items)) }
+    ensures { Adds result blocks.old.items blocks.new.items (item ∷ []) }
 {
     let mut block = Vec::new(alloc);
     if !try_push(&mut block, item) {
@@ -85,12 +75,7 @@ pub(crate) fn append_to_last<E: Drop>(
     requires room { HasRoom (block_items blocks.old.items) }
     requires together { length (joined (block_items blocks.old.items)) % 256 + length more.items
         ≤ 256 }
-    ensures blocks { AreBlocks (block_items blocks.new.items) }
-    ensures ok { OnOk result (joined (block_items blocks.new.items)
-        ≡ joined (block_items blocks.old.items)
-        ++ more.items) }
-    ensures err { OnErr result (joined (block_items blocks.new.items)
-        ≡ joined (block_items blocks.old.items)) }
+    ensures { Adds result blocks.old.items blocks.new.items more.items }
 {
     let count = blocks.len();
     let last = &mut blocks[count - 1];

@@ -26,7 +26,10 @@ pub(crate) fn add_block(blocks: &mut Vec<DrawnBlock>, block: DrawnBlock) -> Resu
 }
 
 /// Adds an empty block if there is no block.
-pub(crate) fn ensure_block(blocks: &mut Vec<DrawnBlock>, alloc: Global) -> Result<(), OutOfMemory>
+pub(crate) fn ensure_drawn_block(
+    blocks: &mut Vec<DrawnBlock>,
+    alloc: Global,
+) -> Result<(), OutOfMemory>
     ensures same { joined blocks.new.items ≡ joined blocks.old.items }
     ensures some { OnOk result (0 < length blocks.new.items) }
 {
@@ -37,7 +40,7 @@ pub(crate) fn ensure_block(blocks: &mut Vec<DrawnBlock>, alloc: Global) -> Resul
 }
 
 /// Adds an element to the last block. A call that fails changes nothing.
-pub(crate) fn push_last(
+pub(crate) fn push_drawn(
     blocks: &mut Vec<DrawnBlock>,
     bytes: &[u8],
     draws: u32,
@@ -55,7 +58,7 @@ pub(crate) fn push_last(
 
 /// Adds `count` elements, given as bytes of a record, to the last block. A call that fails changes
 /// nothing.
-pub(crate) fn extend_last(
+pub(crate) fn extend_drawn(
     blocks: &mut Vec<DrawnBlock>,
     spelled: &[u8],
     count: u32,
@@ -74,7 +77,7 @@ pub(crate) fn extend_last(
 }
 
 /// Removes all elements, and keeps the memory of the first block.
-pub(crate) fn clear_blocks(blocks: &mut Vec<DrawnBlock>)
+pub(crate) fn clear_drawn_blocks(blocks: &mut Vec<DrawnBlock>)
     ensures { joined blocks.new.items ≡ [] }
 {
     blocks.truncate(1);
@@ -93,7 +96,7 @@ pub(crate) fn clear_block_draws(blocks: &mut [DrawnBlock])
 }
 
 /// A walk over the elements of all blocks in order.
-pub(crate) fn walk_over(blocks: &[DrawnBlock]) -> Walk<'_>
+pub(crate) fn walk_drawn_blocks(blocks: &[DrawnBlock]) -> Walk<'_>
     ensures { result ≡ joined blocks.now }
 {
     Walk {
@@ -103,7 +106,7 @@ pub(crate) fn walk_over(blocks: &[DrawnBlock]) -> Walk<'_>
 }
 
 /// Whether the remaining elements of two walks are equal. The blocks may be cut differently.
-pub(crate) fn are_equal(left: Walk<'_>, right: Walk<'_>) -> bool
+pub(crate) fn are_walks_equal(left: Walk<'_>, right: Walk<'_>) -> bool
     ensures { result ≡ pointwise drawn_eq left.entry right.entry }
 {
     let mut left = left;

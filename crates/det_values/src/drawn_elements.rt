@@ -8,8 +8,8 @@ ghost use Rattle.det_values.specs.declared.frames.DrawnElement.{DrawnElement};
 use crate::OutOfMemory;
 use crate::drawn_block::DrawnBlock;
 use crate::drawn_blocks::{
-    add_block, are_equal, clear_block_draws, clear_blocks, ensure_block, extend_last, push_last,
-    walk_over,
+    add_block, are_walks_equal, clear_block_draws, clear_drawn_blocks, ensure_drawn_block,
+    extend_drawn, push_drawn, walk_drawn_blocks,
 };
 use crate::walk::Walk;
 use std::alloc::Global;
@@ -85,8 +85,8 @@ impl DrawnElements {
         ensures ok { OnOk result (self.new ≡ self.old ++ an_element bytes.now draws ∷ []) }
         ensures err { OnErr result (self.new ≡ self.old) }
     {
-        ensure_block(&mut self.blocks, self.alloc)?;
-        push_last(&mut self.blocks, bytes, draws)?;
+        ensure_drawn_block(&mut self.blocks, self.alloc)?;
+        push_drawn(&mut self.blocks, bytes, draws)?;
         self.count += 1;
         Ok(())
     }
@@ -113,7 +113,7 @@ impl DrawnElements {
     pub fn clear(&mut self)
         ensures { self.new ≡ [] }
     {
-        clear_blocks(&mut self.blocks);
+        clear_drawn_blocks(&mut self.blocks);
         self.count = 0;
     }
 
@@ -127,8 +127,8 @@ impl DrawnElements {
             → length es ≡ count → All IsDrawn es → self.new ≡ self.old ++ es) }
         ensures err { OnErr result (self.new ≡ self.old) }
     {
-        ensure_block(&mut self.blocks, self.alloc)?;
-        extend_last(&mut self.blocks, spelled, count)?;
+        ensure_drawn_block(&mut self.blocks, self.alloc)?;
+        extend_drawn(&mut self.blocks, spelled, count)?;
         self.count += count;
         Ok(())
     }
@@ -144,7 +144,7 @@ impl DrawnElements {
     pub fn walk(&self) -> Walk<'_>
         ensures { result ≡ self.now }
     {
-        walk_over(self.blocks.as_slice())
+        walk_drawn_blocks(self.blocks.as_slice())
     }
 }
 
@@ -160,6 +160,6 @@ impl PartialEq for DrawnElements {
         if self.blocks.as_slice() == other.blocks.as_slice() {
             return true;
         }
-        are_equal(self.walk(), other.walk())
+        are_walks_equal(self.walk(), other.walk())
     }
 }

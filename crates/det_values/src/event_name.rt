@@ -25,23 +25,23 @@ impl Model for EventName {
     ghost invariant = { λ n. is_event_name n.bytes ≡ true };
 }
 
-fn is_name_byte(byte: &u8) -> bool
+fn is_event_name_byte(byte: &u8) -> bool
     ensures { result ≡ allowed_in_name byte.now }
 {
     matches!(*byte, b'a'..=b'z' | b'0'..=b'9' | b'_')
 }
 
-fn are_name_bytes(bytes: &[u8]) -> bool
+fn are_event_name_bytes(bytes: &[u8]) -> bool
     ensures { result ≡ list_all allowed_in_name bytes.now }
 {
-    bytes.iter().all(is_name_byte)
+    bytes.iter().all(is_event_name_byte)
 }
 
 fn is_name(bytes: &[u8]) -> bool
     ensures value { result ≡ is_event_name bytes.now }
     ensures few { result ≡ true → length bytes.now ≤ 64 }
 {
-    !bytes.is_empty() && bytes.len() <= 32 && are_name_bytes(bytes)
+    !bytes.is_empty() && bytes.len() <= 32 && are_event_name_bytes(bytes)
 }
 
 impl EventName {

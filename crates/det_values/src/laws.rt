@@ -5,6 +5,7 @@ ghost use Rattle.std.specs.Bool.{Decides};
 use crate::{CycleInput, DrawnElements, Frame, Outcome, Profile, RefusedAt, RunFrame};
 
 /// `==` returns true exactly when both sides are the same value for contracts.
+#[tactic(auto, using(crate::proofs::Equality::deciders))]
 pub fn equality()
     ensures elements { (a b : DrawnElements)
         → Decides (⟦<DrawnElements as PartialEq>⟧.eq a b) (a ≡ b) }

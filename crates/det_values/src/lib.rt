@@ -1,6 +1,6 @@
-//! Values with their limits, lists with a greatest length, and containers of blocks. All other
-//! crates exchange them. A limit is an invariant of its type, so no reader of a value checks it
-//! again.
+//! Values with their limits (profiles, cycle inputs, frames, elements with their draws), lists
+//! with a greatest length, containers of blocks, and spare memory for them. All other crates
+//! exchange them. A limit is an invariant of its type, so no reader of a value checks it again.
 #![tactic(auto)]
 
 mod block_walk;

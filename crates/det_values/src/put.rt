@@ -35,7 +35,7 @@ pub fn put_slice(out: &mut Vec<u8>, bytes: &[u8]) -> Result<(), AllocError>
 }
 
 #[tactic(auto, unfolding(crate::specs::Spelling::spelled_drawn))]
-fn put_parts(out: &mut Vec<u8>, bytes: &[u8], draws: u32) -> Result<(), AllocError>
+fn put_element_parts(out: &mut Vec<u8>, bytes: &[u8], draws: u32) -> Result<(), AllocError>
     requires { length bytes.now ≤ 64 }
     ensures ok { OnOk result (out.new.items ≡ out.old.items
         ++ spelled_drawn (an_element bytes.now draws)) }
@@ -57,7 +57,7 @@ pub fn put_drawn(out: &mut Vec<u8>, bytes: &[u8], draws: u32) -> Result<(), OutO
     ensures fields { IsDrawn (an_element bytes.now draws) }
 {
     let len = out.len();
-    match put_parts(out, bytes, draws) {
+    match put_element_parts(out, bytes, draws) {
         Ok(()) => Ok(()),
         Err(_) => {
             out.truncate(len);

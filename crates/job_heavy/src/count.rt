@@ -7,6 +7,7 @@ ghost use Rattle.job_heavy.specs.Ranges.{IsCountOf};
 
 use det_values::{Bytes, OutOfMemory};
 use job_shared::empty_output;
+use std::alloc::Global;
 
 /// The sum of two counts.
 pub(crate) fn add_counts(left: u64, right: u64) -> u64
@@ -18,10 +19,14 @@ pub(crate) fn add_counts(left: u64, right: u64) -> u64
 }
 
 /// The count, in 8 bytes.
-pub(crate) fn output(count: u64, spare: Bytes) -> Result<Bytes, OutOfMemory>
+pub(crate) fn output(
+    count: u64,
+    alloc: Global,
+    spare: &mut Option<Bytes>,
+) -> Result<Bytes, OutOfMemory>
     ensures { IfOk result (λ bytes. bytes ≡ output count) }
 {
-    let mut bytes = empty_output(spare, 8)?;
+    let mut bytes = empty_output(alloc, spare, 8)?;
     bytes.extend_from_slice(&count.to_be_bytes())?;
     Ok(bytes)
 }

@@ -1,13 +1,14 @@
 //! The implementation of `Job` for `Heavy`.
 
 use crate::count::{add_counts, output};
-use crate::state::{first_states, fold_words, put_state};
+use crate::state::fold_words;
 use crate::{Heavy, State};
 use det_client::Client;
 use det_client::element_random::ElementRandom;
 use det_values::{Bytes, Container, OutOfMemory, Params};
 use job::event_cache::EventCache;
 use job::{BadParam, Conclusion, Job, JobFault, JobStart};
+use job_shared::{first_elements, natural_param, no_more_params};
 use std::alloc::Global;
 
 /// The job keeps nothing between cycles besides its elements.
@@ -43,7 +44,10 @@ impl Job for Heavy {
     ghost laws = { heavy_laws };
 
     fn make(params: &Params, events: u16) -> Result<Heavy, BadParam> {
-        Heavy::from_params(params.as_slice(), events)
+        let params = params.as_slice();
+        let elements = natural_param(params, 0, 1, 65536)?;
+        no_more_params(params, 1)?;
+        Ok(Heavy { elements, events })
     }
 
     fn start(
@@ -53,7 +57,7 @@ impl Job for Heavy {
     ) -> Result<JobStart<NoGlobals, State>, OutOfMemory> {
         Ok(JobStart {
             globals: NoGlobals,
-            elements: first_states(alloc, self)?,
+            elements: first_elements(alloc, self, self.elements)?,
         })
     }
 
@@ -100,7 +104,7 @@ impl Job for Heavy {
 
     #[inline(always)]
     fn put_element(&self, element: &State, out: &mut Vec<u8>) -> Result<(), OutOfMemory> {
-        put_state(element, out)
+        Ok(out.extend_from_slice(&element.folded.to_be_bytes())?)
     }
 
     fn conclude(
@@ -111,10 +115,9 @@ impl Job for Heavy {
         part: &u64,
         spare: &mut Option<Bytes>,
     ) -> Result<Conclusion<NoGlobals>, JobFault> {
-        let spare = spare.take().unwrap_or(Bytes::new(alloc));
         Ok(Conclusion {
             globals: NoGlobals,
-            output: output(*part, spare)?,
+            output: output(*part, alloc, spare)?,
         })
     }
 }

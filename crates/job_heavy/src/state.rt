@@ -1,17 +1,12 @@
 //! The heavy job's elements, and the random numbers that they fold.
 
-ghost use Rattle.std.specs.Prelude.{◌≡◌, ◌+◌, ◌<◌, ℕ, ◌≤◌, ◌++◌, IfOk, OnOk, OnErr, length};
-ghost use Rattle.std.specs.Vec.{vec_capacity, vec_len};
-ghost use Rattle.std.specs.List.{All};
-ghost use Rattle.det_values.specs.Spelling.{Grows};
+ghost use Rattle.std.specs.Prelude.{◌≡◌, ℕ};
 ghost use Rattle.det_client.specs.element_random.RandomStreams.{StandsFor};
-ghost use Rattle.job_heavy.specs.Meaning.{folded, first_states, shown};
-ghost use Rattle.job_heavy.specs.Ranges.{Own};
+ghost use Rattle.job_heavy.specs.Meaning.{folded};
 
 use crate::Heavy;
 use det_client::element_random::ElementRandom;
-use det_values::{Container, OutOfMemory};
-use std::alloc::Global;
+use job_shared::FirstElement;
 
 /// An element: the fold of all random numbers that it drew.
 #[derive(Clone, Copy, Debug, PartialEq, Eq, Drop)]
@@ -19,22 +14,16 @@ pub struct State {
     pub(crate) folded: u64,
 }
 
-/// All elements of a job. Element i starts with the state i.
-pub(crate) fn first_states(alloc: Global, heavy: &Heavy) -> Result<Container<State>, OutOfMemory>
-    ensures states { IfOk result (λ states. states ≡ first_states heavy.now) }
-    ensures own { IfOk result (All (Own heavy.now)) }
-    ensures few { IfOk result (λ states. length states ≤ 65536) }
-{
-    let mut states = Container::with_room(alloc, heavy.elements as usize)?;
-    for i in 0..heavy.elements {
-        states.push(
-            alloc,
-            State {
-                folded: u64::from(i),
-            },
-        )?;
+impl FirstElement<Heavy> for State {
+    ghost use Rattle.job_heavy.specs.Meaning.{first_state};
+
+    ghost first = { λ _ number. first_state number };
+
+    fn first_element(_heavy: &Heavy, number: u32) -> State {
+        State {
+            folded: u64::from(number),
+        }
     }
-    Ok(states)
 }
 
 /// A state after the first 64 numbers of a stream are folded into it.
@@ -47,16 +36,4 @@ pub(crate) fn fold_words(first: u64, random: &mut ElementRandom) -> u64
         state = state.rotate_left(5) ^ random.get_random();
     }
     state
-}
-
-/// Appends the state, in 8 bytes.
-#[inline(always)]
-pub(crate) fn put_state(state: &State, out: &mut Vec<u8>) -> Result<(), OutOfMemory>
-    ensures ok { OnOk result (out.new.items ≡ out.old.items ++ shown state.now) }
-    ensures grows { Grows out.old.items out.new.items }
-    ensures room { vec_capacity out.old ≤ vec_capacity out.new }
-    ensures full { OnErr result (vec_capacity out.old < vec_len out.old + 64) }
-{
-    out.extend_from_slice(&state.folded.to_be_bytes())?;
-    Ok(())
 }

@@ -3,12 +3,17 @@
 ghost use Rattle.std.specs.Prelude.{◌≡◌, [], IfOk};
 
 use det_values::{Bytes, OutOfMemory};
+use std::alloc::Global;
 
-/// An empty list with room for `room` bytes, in the memory of `spare`.
-pub fn empty_output(spare: Bytes, room: usize) -> Result<Bytes, OutOfMemory>
+/// An empty list with room for `room` bytes, in the memory of `spare` if there is some.
+pub fn empty_output(
+    alloc: Global,
+    spare: &mut Option<Bytes>,
+    room: usize,
+) -> Result<Bytes, OutOfMemory>
     ensures { IfOk result (λ bytes. bytes ≡ []) }
 {
-    let mut bytes = spare.into_vec();
+    let mut bytes = spare.take().unwrap_or(Bytes::new(alloc)).into_vec();
     bytes.clear();
     bytes.reserve(room)?;
     Ok(Bytes::from_vec(bytes))

@@ -1,5 +1,5 @@
-//! The shipped jobs: the filter bank, the particle cloud and the guard. docs/FORMATS.md has their
-//! parameters, outputs and codes.
+//! The shipped jobs: the filter bank, the particle cloud and the guard, and which parameter of a
+//! job is bad. docs/FORMATS.md has their parameters, outputs and codes.
 #![tactic(auto)]
 
 pub mod bank;

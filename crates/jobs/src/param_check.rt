@@ -9,7 +9,7 @@ use det_values::{JobKind, Params};
 use job::Job;
 
 /// The least parameter that a job refuses, counted from 0.
-fn bad_param_of<J: Job>(params: &Params, events: u16) -> Option<u8>
+fn job_bad_param<J: Job>(params: &Params, events: u16) -> Option<u8>
     ensures { result ≡ J.meaning.bad_param params.now events }
 {
     match J::make(params, events) {
@@ -24,8 +24,8 @@ pub fn bad_param(kind: JobKind, params: &Params, events: u16) -> Option<u8>
     ensures { result ≡ bad_param kind params.now events }
 {
     match kind {
-        JobKind::Bank => bad_param_of::<Bank>(params, events),
-        JobKind::Cloud => bad_param_of::<Cloud>(params, events),
-        JobKind::Guard => bad_param_of::<Guard>(params, events),
+        JobKind::Bank => job_bad_param::<Bank>(params, events),
+        JobKind::Cloud => job_bad_param::<Cloud>(params, events),
+        JobKind::Guard => job_bad_param::<Guard>(params, events),
     }
 }

@@ -40,10 +40,6 @@ remaining-append (x ∷ xs) ys = ap (λ rest. bytes_last x ++ rest) (remaining-a
 gone : List ℕ → Report
 gone bytes = record { bytes = bytes; before = Some 0 }
 
-if-true : (b : Bool) (xs : List ℕ) → b ≡ true → (if b then xs else []) ≡ xs
-if-true true xs h = refl
-if-true false xs h = cc
-
 if-false : (b : Bool) (xs : List ℕ) → b ≡ false → (if b then xs else []) ≡ []
 if-false true xs h = cc
 if-false false xs h = refl

@@ -25,9 +25,6 @@ limit_short seen refused s r =
 pub gap_short : (gap : ℕ) → gap < 2 ^ 64 → length (gap_text (Some gap)) ≤ 256
 gap_short gap g = let a : length (decimal gap) ≤ 20 = short_number gap g in simp length-append (omega arith)
 
-pub no_gap_short : length (gap_text None) ≤ 256
-no_gap_short = omega arith
-
 short_phase : (phase : Phase) → length (phase_word phase) ≤ 8
 short_phase Prepare = omega arith
 short_phase Pool = omega arith
@@ -42,6 +39,3 @@ refusal_short seen at s p e c =
     let f : length (decimal at.code) ≤ 20 = short_number at.code c in
     let g : length (phase_word at.phase) ≤ 8 = short_phase at.phase in
     simp length-append (omega arith)
-
-pub no_refusal_short : (seen : ℕ) → length (refusal_text seen None) ≤ 256
-no_refusal_short seen = omega arith

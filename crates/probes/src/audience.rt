@@ -3,7 +3,7 @@ ghost use Rattle.std.specs.Prelude.{◌≤◌, ◌+◌, ◌*◌, length};
 ghost use Rattle.std.specs.Vec.{vec_len};
 
 use crate::probe::Probe;
-use crate::probe_list::{finish_all, show_all};
+use crate::probe_list::{finish_all, show_to_probes};
 use det_values::{Bytes, OutOfMemory, RunFrame};
 use std::alloc::Global;
 
@@ -45,7 +45,7 @@ impl Audience {
         ensures partly { OnErr result
             (ShowsPartly (seen (λ b. life b) self.old) (seen (λ b. life b) self.new) run.now) }
     {
-        show_all(alloc, &mut self.remaining, &mut self.left, run)
+        show_to_probes(alloc, &mut self.remaining, &mut self.left, run)
     }
 
     /// Appends the reports of all probes that are left, in order, and drops the probes. After an

@@ -3,7 +3,7 @@ ghost use Rattle.std.specs.Prelude.{◌≡◌};
 ghost use Rattle.probes.specs.Shipped.{count_life};
 
 use crate::probe::{Probe, ProbeStep};
-use crate::report_lines::count_line;
+use crate::report_lines::count_report_line;
 use det_values::{Bytes, OutOfMemory, Outcome, RunFrame};
 use std::alloc::Global;
 
@@ -38,6 +38,6 @@ impl Probe for CountProbe {
     }
 
     fn report(&self, alloc: Global) -> Result<Bytes, OutOfMemory> {
-        count_line(alloc, self.finished, self.refused)
+        count_report_line(alloc, self.finished, self.refused)
     }
 }

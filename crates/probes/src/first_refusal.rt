@@ -3,7 +3,7 @@ ghost use Rattle.std.specs.Prelude.{◌≡◌, None};
 ghost use Rattle.probes.specs.Shipped.{refusal_life};
 
 use crate::probe::{Probe, ProbeStep};
-use crate::report_lines::refusal_line;
+use crate::report_lines::refusal_report_line;
 use det_values::{Bytes, OutOfMemory, Outcome, RefusedAt, RunFrame};
 use std::alloc::Global;
 
@@ -38,6 +38,6 @@ impl Probe for FirstRefusalProbe {
     }
 
     fn report(&self, alloc: Global) -> Result<Bytes, OutOfMemory> {
-        refusal_line(alloc, self.seen, &self.at)
+        refusal_report_line(alloc, self.seen, &self.at)
     }
 }

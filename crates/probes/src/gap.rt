@@ -3,7 +3,7 @@ ghost use Rattle.std.specs.Prelude.{◌≡◌, None};
 ghost use Rattle.probes.specs.Shipped.{gap_life, gap_between, greater};
 
 use crate::probe::{Probe, ProbeStep};
-use crate::report_lines::gap_line;
+use crate::report_lines::gap_report_line;
 use det_values::{Bytes, OutOfMemory, RunFrame};
 use std::alloc::Global;
 
@@ -16,13 +16,13 @@ pub struct GapProbe {
     gap: Option<u64>,
 }
 
-fn time_between(before: Option<u64>, time: Option<u64>) -> Option<u64>
+fn time_between_runs(before: Option<u64>, time: Option<u64>) -> Option<u64>
     ensures { result ≡ gap_between before time }
 {
     time?.checked_sub(before?)
 }
 
-fn greater_of(gap: Option<u64>, other: Option<u64>) -> Option<u64>
+fn greater_gap(gap: Option<u64>, other: Option<u64>) -> Option<u64>
     ensures { result ≡ greater gap other }
 {
     match (gap, other) {
@@ -49,12 +49,12 @@ impl Probe for GapProbe {
 
     fn see(&mut self, run: &RunFrame) -> ProbeStep {
         let time = run.input.time;
-        self.gap = greater_of(self.gap, time_between(self.last, time));
+        self.gap = greater_gap(self.gap, time_between_runs(self.last, time));
         self.last = time;
         ProbeStep::Stay
     }
 
     fn report(&self, alloc: Global) -> Result<Bytes, OutOfMemory> {
-        gap_line(alloc, self.gap)
+        gap_report_line(alloc, self.gap)
     }
 }

@@ -1,5 +1,5 @@
-//! Observers of runs, each of which reports one line, and the audience of all of them. A probe
-//! reports when it leaves, or at the end.
+//! Observers of runs, each of which reports one line, the texts of these lines, and the audience
+//! of all observers. A probe reports when it leaves, or at the end.
 #![tactic(auto)]
 
 mod audience;

@@ -3,7 +3,7 @@ ghost use Rattle.std.specs.Prelude.{◌≡◌, ◌≤◌};
 ghost use Rattle.probes.specs.Shipped.{limit_life};
 
 use crate::probe::{Probe, ProbeStep};
-use crate::report_lines::limit_line;
+use crate::report_lines::limit_report_line;
 use det_values::{Bytes, OutOfMemory, Outcome, RunFrame};
 use std::alloc::Global;
 
@@ -45,6 +45,6 @@ impl Probe for LimitProbe {
     }
 
     fn report(&self, alloc: Global) -> Result<Bytes, OutOfMemory> {
-        limit_line(alloc, self.seen, self.refused)
+        limit_report_line(alloc, self.seen, self.refused)
     }
 }

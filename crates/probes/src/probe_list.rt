@@ -27,7 +27,7 @@ fn report_one(alloc: Global, probe: &Box<dyn Probe>) -> Result<Bytes, OutOfMemor
 /// Shows a run to each probe, in order. The report of a probe that leaves is appended to `left`,
 /// and the other probes keep their order. After an error only a part of the probes has seen the
 /// run.
-pub(crate) fn show_all(
+pub(crate) fn show_to_probes(
     alloc: Global,
     probes: &mut Vec<Box<dyn Probe>>,
     left: &mut Bytes,

@@ -6,7 +6,7 @@ ghost use Rattle.probes.specs.Texts.{count_text, gap_text, limit_text, refusal_t
 use det_values::{Bytes, OutOfMemory, Phase, RefusedAt};
 use std::alloc::Global;
 
-fn bytes_of(text: String) -> Bytes
+fn report_line_bytes(text: String) -> Bytes
     requires { length (string_bytes text) ≤ 256 }
     ensures bytes { result ≡ string_bytes text }
     ensures short { length result ≤ 256 }
@@ -15,46 +15,46 @@ fn bytes_of(text: String) -> Bytes
 }
 
 /// `count F R`: the numbers of finished and of refused runs.
-pub fn count_line(alloc: Global, finished: u32, refused: u32) -> Result<Bytes, OutOfMemory>
+pub fn count_report_line(alloc: Global, finished: u32, refused: u32) -> Result<Bytes, OutOfMemory>
     ensures bytes { IfOk result (λ bytes. bytes ≡ count_text finished refused) }
     ensures short { IfOk result (λ bytes. length bytes ≤ 256) }
 {
     let text = format!(in alloc; "count {finished} {refused}\n")?;
-    Ok(bytes_of(text))
+    Ok(report_line_bytes(text))
 }
 
-fn gap_at(alloc: Global, gap: u64) -> Result<Bytes, OutOfMemory>
+fn gap_found_line(alloc: Global, gap: u64) -> Result<Bytes, OutOfMemory>
     ensures bytes { IfOk result (λ bytes. bytes ≡ gap_text (Some gap)) }
     ensures short { IfOk result (λ bytes. length bytes ≤ 256) }
 {
     let text = format!(in alloc; "gap {gap}\n")?;
-    Ok(bytes_of(text))
+    Ok(report_line_bytes(text))
 }
 
 /// `gap G`, in nanoseconds, or `gap none`.
-pub fn gap_line(alloc: Global, gap: Option<u64>) -> Result<Bytes, OutOfMemory>
+pub fn gap_report_line(alloc: Global, gap: Option<u64>) -> Result<Bytes, OutOfMemory>
     ensures bytes { IfOk result (λ bytes. bytes ≡ gap_text gap) }
     ensures short { IfOk result (λ bytes. length bytes ≤ 256) }
 {
     match gap {
-        Some(gap) => gap_at(alloc, gap),
+        Some(gap) => gap_found_line(alloc, gap),
         None => {
             let text = format!(in alloc; "gap none\n")?;
-            Ok(bytes_of(text))
+            Ok(report_line_bytes(text))
         }
     }
 }
 
 /// `limit M R`: the number of runs seen, and how many of them were refused.
-pub fn limit_line(alloc: Global, seen: u32, refused: u32) -> Result<Bytes, OutOfMemory>
+pub fn limit_report_line(alloc: Global, seen: u32, refused: u32) -> Result<Bytes, OutOfMemory>
     ensures bytes { IfOk result (λ bytes. bytes ≡ limit_text seen refused) }
     ensures short { IfOk result (λ bytes. length bytes ≤ 256) }
 {
     let text = format!(in alloc; "limit {seen} {refused}\n")?;
-    Ok(bytes_of(text))
+    Ok(report_line_bytes(text))
 }
 
-fn refusal_at(
+fn refusal_found_line(
     alloc: Global,
     seen: u32,
     phase: Phase,
@@ -69,19 +69,23 @@ fn refusal_at(
 {
     let phase = phase.word();
     let text = format!(in alloc; "refusal {seen} {phase} {pass} {element} {code}\n")?;
-    Ok(bytes_of(text))
+    Ok(report_line_bytes(text))
 }
 
 /// `refusal C PHASE PASS ELEMENT CODE`, where C is the number of runs seen, or `refusal none`.
-pub fn refusal_line(alloc: Global, seen: u32, at: &Option<RefusedAt>) -> Result<Bytes, OutOfMemory>
+pub fn refusal_report_line(
+    alloc: Global,
+    seen: u32,
+    at: &Option<RefusedAt>,
+) -> Result<Bytes, OutOfMemory>
     ensures bytes { IfOk result (λ bytes. bytes ≡ refusal_text seen at.now) }
     ensures short { IfOk result (λ bytes. length bytes ≤ 256) }
 {
     match at {
-        Some(at) => refusal_at(alloc, seen, at.phase, at.pass, at.element, at.code),
+        Some(at) => refusal_found_line(alloc, seen, at.phase, at.pass, at.element, at.code),
         None => {
             let text = format!(in alloc; "refusal none\n")?;
-            Ok(bytes_of(text))
+            Ok(report_line_bytes(text))
         }
     }
 }

@@ -16,6 +16,7 @@ use Rattle.record_grammar.specs.Grammar.{drawn_at}
 use Rattle.record_grammar.proofs.Steady.{bind_got, got_is}
 use Rattle.record_grammar.proofs.lemmas.record_laws.Lawful.{AreBytes-rest}
 use Rattle.record_grammar.proofs.lemmas.record_laws.LawfulParts.{drawn_lawful}
+use Rattle.record_view.proofs.Many.{many_one, many_none}
 use Rattle.record_grammar.specs.Spelling.{spelled_u16, spelled_element, spelled_drawn, IsDrawn, MayDraw}
 
 pub in_ranges : (format : Format) (es : List DrawnElement) → All flat.IsDrawn es → All (λ e. MayDraw format e.draws) es
@@ -99,15 +100,6 @@ blocks_drawn (b ∷ bs) h =
     All-append flat.IsDrawn b (joined bs) (All-head (All flat.IsDrawn) b bs h) (blocks_drawn bs (All-tail (All flat.IsDrawn) b bs h))
 
 -- ---- elements of format Two, as they stand in the bytes
-
-many_one : {A : Type 0} (item : List ℕ → Read A) (n : ℕ) (bytes : List ℕ) → many item (suc n) bytes
-    ≡ (item bytes >>= λ first. many item n first.1 >>= λ others. Got (first.0 ∷ others.0, others.1))
-unfolding many
-many_one item n bytes = refl
-
-many_none : {A : Type 0} (item : List ℕ → Read A) (bytes : List ℕ) → many item zero bytes ≡ Got ([], bytes)
-unfolding many
-many_none item bytes = refl
 
 same_length : {A : Type 0} (xs : List A) (rest : List ℕ) (x : List A × List ℕ) → (xs, rest) ≡ x → length x.0 ≡ length xs
 same_length {A} xs rest x e = sym (ap (λ (y : List A × List ℕ). length y.0) e)

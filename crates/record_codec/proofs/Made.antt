@@ -1,8 +1,8 @@
 -- Which item a view is of, by its kind.
-use Rattle.std.proofs.Common.{◌≡◌, ℕ, ◌<◌, ◌≤◌, List, [], ◌∷◌, length, take, drop, map, Option, inl, inr, refl, sym, ap, subst, ◌∙◌, arith}
-use Rattle.std.proofs.Common.{Result, Ok, Err, length-take}
-use Rattle.std.specs.Prelude.{IfOk, OnOk}
+use Rattle.std.proofs.Common.{◌≡◌, ℕ, ◌<◌, ◌≤◌, List, length, take, drop, Option, inl, inr, refl, sym, ap, subst, ◌∙◌, arith}
+use Rattle.std.proofs.Common.{get_or, length-take}
 use Rattle.std.proofs.lemmas.Bool.{cases_lt}
+use Rattle.std.proofs.lemmas.List.Elements.{All-from_get_or}
 use Rattle.det_values.specs.declared.format.Format.{Format}
 use Rattle.det_values.specs.declared.format.Format.TheVariants.{Two}
 use Rattle.det_values.specs.declared.frames.CycleInput.{CycleInput}
@@ -14,7 +14,6 @@ use Rattle.det_values.specs.declared.frames.Outcome.TheVariants as outcomes
 use Rattle.det_values.specs.declared.frames.RunFrame.{RunFrame}
 use Rattle.det_values.specs.Values.{SampleValue, ProfileValue}
 use Rattle.record_grammar.specs.declared.limits.Limits.TheVariants.{Between}
-use Rattle.record_grammar.specs.declared.place.Layout.{Layout}
 use Rattle.record_grammar.specs.declared.place.Place.{Place}
 use Rattle.record_grammar.specs.declared.place.Place.TheVariants as places
 use Rattle.record_grammar.specs.declared.item.Item.{Item}
@@ -30,26 +29,23 @@ use Rattle.record_grammar.proofs.Steady.{bind_got, got_is, raw_short, raw_long}
 use Rattle.record_view.specs.declared.view.InputView.{InputView}
 use Rattle.record_view.specs.declared.view.OutcomeView.{OutcomeView}
 use Rattle.record_view.specs.declared.view.OutcomeView.TheVariants as ends
-use Rattle.record_view.specs.declared.view.FrameKind.{FrameKind}
 use Rattle.record_view.specs.declared.view.FrameKind.TheVariants as kinds
 use Rattle.record_view.specs.declared.view.FrameView.{FrameView}
 use Rattle.record_view.specs.declared.view.ItemView.{ItemView}
-use Rattle.record_view.specs.Shows.{ShowsFrame, ShowsOutcome, ShowsFinished, IsSpelling, IsFrameSpelling, item_view, events_of}
-use Rattle.record_view.specs.Parts.{undrawn, ElementsOf, OutputOf}
+use Rattle.record_view.specs.Shows.{ShowsFrame, ShowsOutcome, ShowsFinished, IsSpelling, IsFrameSpelling, events_of}
+use Rattle.record_view.specs.Parts.{ElementsOf, OutputOf}
+use Rattle.record_view.proofs.InitFrames.{frame_parts, of_init}
 use Rattle.record_view.proofs.Numbers.{number_within}
 use Rattle.record_view.proofs.EqualItems.{span_is_spelling}
-use Rattle.record_codec.specs.Parts.{bytes_of, ShowsRun, FewElements}
+use Rattle.record_codec.specs.Parts.{ShowsRun, FewElements}
 use Rattle.record_codec.proofs.Flat.{many_counted, StandsSpelled, stand_spelled}
 
-pub frame_parts : (view : FrameView) (frame : Frame) (bytes : List ℕ) (kind : FrameKind) → view.kind ≡ kind
-    → IsFrameSpelling view frame bytes → ShowsFrame view.place kind view.len bytes frame
-frame_parts view frame bytes kind is h =
-    subst (λ (k : FrameKind). ShowsFrame view.place k view.len bytes frame) is h.shows.parts
-
 -- each field of an item is in its range
-pub may_stand : (view : ItemView) (item : Item) (bytes : List ℕ) → events_of view.place ≤ 65536 → AreBytes bytes
-    → IsSpelling view item bytes → MayStand view.place item
-may_stand view item bytes few are h = (span_is_spelling view.place view.span bytes item few are h.shows).0
+pub may_stand : (view : ItemView) (item : Item) (bytes : List ℕ) (events : ℕ) → events ≡ events_of view.place → events ≤ 65536
+    → ((i : ℕ) → i < length bytes → get_or bytes i 0 < 256) → IsSpelling view item bytes → MayStand view.place item
+may_stand view item bytes events is few are h =
+    (span_is_spelling view.place view.span bytes item (subst (λ (n : ℕ). n ≤ 65536) is few) (All-from_get_or (λ b. b < 256) bytes 0 are)
+    h.shows).0
 
 -- ---- a header
 
@@ -86,25 +82,6 @@ header_read view p bytes h =
 
 -- ---- Init
 
-pub record IsInitOf (count len : ℕ) (bytes : List ℕ) (frame : Frame) : Type 0 where
-  pub elements : List (List ℕ)
-  pub is : frame ≡ frames.Init elements
-  pub read : many element_at count (drop 5 bytes) ≡ Got (elements, drop len bytes)
-  pub long : 5 ≤ len
-
-init_by : (place : Place) (count len : ℕ) (bytes : List ℕ) (frame : Frame) → ShowsFrame place (kinds.Init count) len bytes frame
-    → IsInitOf count len bytes frame
-init_by place count len bytes (frames.Init es) h = record { elements = es; is = refl; read = h.0; long = h.1 }
-init_by place count len bytes frames.Register h = absurd h
-init_by place count len bytes frames.Discover h = absurd h
-init_by place count len bytes (frames.Run r) h = absurd h
-init_by place count len bytes frames.Terminate h = absurd h
-
-pub of_init : (view : FrameView) (count : ℕ) (frame : Frame) (bytes : List ℕ) → view.kind ≡ kinds.Init count
-    → IsFrameSpelling view frame bytes → IsInitOf count view.len bytes frame
-of_init view count frame bytes is h =
-    init_by view.place count view.len bytes frame (frame_parts view frame bytes (kinds.Init count) is h)
-
 few_in_init : (place : Place) (es : List (List ℕ)) → MayStand place (items.Frame (frames.Init es)) → length es ≤ 65536
 unfolding IsFrame
 few_in_init (places.Init layout) es h = h.0
@@ -114,21 +91,15 @@ few_in_init (places.Discover layout) es h = absurd h
 few_in_init (places.Runs layout before) es h = absurd h
 few_in_init places.End es h = absurd h
 
-pub few_of_init : (view : FrameView) (count : ℕ) (frame : Frame) (bytes : List ℕ) → events_of view.place ≤ 65536 → AreBytes bytes
-    → IsFrameSpelling view frame bytes → IsInitOf count view.len bytes frame → count ≤ 65536
-few_of_init view count frame bytes few are h i =
-    let m : MayStand view.place (items.Frame (frames.Init i.elements)) = subst (λ (f : Frame). MayStand view.place (items.Frame f)) i.is
-    (may_stand (item_view view) (items.Frame frame) bytes few are h) in
+pub few_of_init : (view : FrameView) (count : ℕ) (frame : Frame) (bytes : List ℕ) → view.kind ≡ kinds.Init count
+    → IsFrameSpelling view frame bytes → MayStand view.place (items.Frame frame) → count ≤ 65536
+few_of_init view count frame bytes is h stands =
+    let i = of_init view count frame bytes is h in
     omega (
       arith,
-      few_in_init view.place i.elements m,
+      few_in_init view.place i.elements (subst (λ (f : Frame). MayStand view.place (items.Frame f)) i.is stands),
       many_counted element_at count (drop 5 bytes) (i.elements, drop view.len bytes) i.read,
     )
-
--- elements are the bytes of those without draws
-pub bytes_undrawn : (es : List (List ℕ)) → map bytes_of (map undrawn es) ≡ es
-bytes_undrawn [] = refl
-bytes_undrawn (e ∷ es) = ap (λ (xs : List (List ℕ)). e ∷ xs) (bytes_undrawn es)
 
 -- ---- Run
 
@@ -171,12 +142,11 @@ few_by (ends.Finished count at output_at) format fits len bytes outcome k h =
 few_by (ends.Refused at) format fits len bytes outcome k h = tt
 
 pub few_of_run : (view : FrameView) (input : InputView) (outcome : OutcomeView) (frame : Frame) (bytes : List ℕ)
-    → events_of view.place ≤ 65536 → AreBytes bytes → IsFrameSpelling view frame bytes
-    → IsRunOf view.place input outcome view.len bytes frame → FewElements outcome
-few_of_run view input outcome frame bytes few are h i =
-    let m : MayStand view.place (items.Frame (frames.Run i.run)) = subst (λ (f : Frame). MayStand view.place (items.Frame f)) i.is
-    (may_stand (item_view view) (items.Frame frame) bytes few are h) in
-    let f = outcome_fits view.place i.run m in
+    → view.kind ≡ kinds.Run input outcome → IsFrameSpelling view frame bytes → MayStand view.place (items.Frame frame)
+    → FewElements outcome
+few_of_run view input outcome frame bytes is h stands =
+    let i = of_run view input outcome frame bytes is h in
+    let f = outcome_fits view.place i.run (subst (λ (f : Frame). MayStand view.place (items.Frame f)) i.is stands) in
     few_by outcome _ f.0 view.len bytes i.run.outcome f.1 i.shows.outcome_is
 
 abbrev an_input : Option ℕ → List SampleValue → CycleInput
@@ -192,16 +162,6 @@ pub stand_in : (format : Format) (count at to len : ℕ) (bytes : List ℕ) (out
 stand_in format count at to len bytes outcome is are h =
     stand_spelled count at to bytes h.elements are h.order (omega (arith, h.counted, h.within))
     (subst (λ (f : Format). many (drawn_at f) count (drop at bytes) ≡ Got (h.elements, drop to bytes)) is h.elements_read)
-
--- a fact that holds where a call is done, by another one
-pub on_done : {A E : Type 0} {P Q : Type 0} (result : Result A E) → (P → Q) → OnOk result P → OnOk result Q
-on_done (Ok done) then h = then h
-on_done (Err e) then h = tt
-
--- a fact of a value that was made, by another one
-pub if_made : {A E : Type 0} {P Q : A → Type 0} (result : Result A E) → ((made : A) → P made → Q made) → IfOk result P → IfOk result Q
-if_made (Ok made) then h = then made h
-if_made (Err e) then h = tt
 
 pub outcome_is : (outcome : Outcome) (es : List DrawnElement) (output : List ℕ) → ElementsOf es outcome → OutputOf output outcome
     → outcomes.Finished es output ≡ outcome

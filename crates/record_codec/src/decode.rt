@@ -12,7 +12,7 @@ use crate::fill_run::decode_run;
 use crate::header_stop::HeaderStop;
 use crate::read_header::profile;
 use det_values::{Frame, OutOfMemory, Profile};
-use record_view::{FrameKind, FrameView, ItemView, events_at, init_elements_in};
+use record_view::{FrameKind, FrameView, ItemView, events_at, view_init_elements};
 use std::alloc::Global;
 
 /// The profile of a header, from the header's view and its bytes.
@@ -48,7 +48,7 @@ pub fn frame_of(alloc: Global, view: FrameView, bytes: &[u8]) -> Result<Frame, O
         FrameKind::Register => Ok(Frame::Register),
         FrameKind::Discover => Ok(Frame::Discover),
         FrameKind::Init { elements } => {
-            let elements = decode_elements(alloc, init_elements_in(elements, bytes))?;
+            let elements = decode_elements(alloc, view_init_elements(elements, bytes))?;
             Ok(Frame::Init(elements))
         }
         FrameKind::Run { input, outcome } => {

@@ -7,7 +7,7 @@ ghost use Rattle.record_view.specs.Parts.{ElementsOf};
 ghost use Rattle.record_codec.specs.Parts.{bytes_of};
 
 use det_values::{Bytes64, DrawnElements, Elements, Format, Limited, OutOfMemory};
-use record_view::{ElementWalk, elements_in};
+use record_view::{ElementWalk, view_elements};
 use std::alloc::Global;
 
 /// The bytes of the elements that a walk gives.
@@ -44,13 +44,13 @@ pub fn fill_elements(
 {
     elements.clear();
     match format {
-        Format::One => push_all(elements, elements_in(format, count, at, bytes)),
-        Format::Two => elements.extend_spelled(span_of(bytes, at, output_at), count),
+        Format::One => push_elements(elements, view_elements(format, count, at, bytes)),
+        Format::Two => elements.extend_spelled(element_span(bytes, at, output_at), count),
     }
 }
 
 /// The bytes from offset `from` up to offset `to`.
-fn span_of(bytes: &[u8], from: usize, to: usize) -> &[u8]
+fn element_span(bytes: &[u8], from: usize, to: usize) -> &[u8]
     requires order { from ≤ to }
     requires within { to ≤ length bytes.now }
     ensures { result.now ≡ take (to - from) (drop from bytes.now) }
@@ -60,7 +60,7 @@ fn span_of(bytes: &[u8], from: usize, to: usize) -> &[u8]
 }
 
 /// Appends the elements that a walk gives, one by one.
-fn push_all(elements: &mut DrawnElements, walk: ElementWalk<'_>) -> Result<(), OutOfMemory>
+fn push_elements(elements: &mut DrawnElements, walk: ElementWalk<'_>) -> Result<(), OutOfMemory>
     requires { length elements.old + length walk ≤ 65536 }
     ensures { OnOk result (elements.new ≡ elements.old ++ walk.entry) }
 {

@@ -7,7 +7,8 @@ ghost use Rattle.det_values.specs.declared.frames.RunFrame.{RunFrame as RunValue
 ghost use Rattle.record_grammar.specs.Places.{format_of};
 ghost use Rattle.record_view.specs.Shows.{ShowsInput, ShowsOutcome, ShowsFinished, events_of};
 ghost use Rattle.record_view.specs.Parts.{OutputOf};
-ghost use Rattle.record_codec.specs.Parts.{ShowsRun, FewElements};
+ghost use Rattle.record_codec.specs.Parts.{ShowsRun, FewElements, IsFinishedView};
+ghost use Rattle.record_codec.specs.Parts.{IsShownOutcome};
 
 use crate::elements::fill_elements;
 use det_values::{
@@ -15,7 +16,8 @@ use det_values::{
 };
 use record_grammar::Place;
 use record_view::{
-    InputView, OutcomeView, SampleWalk, events_at, format_at, output_in, refusal_in, samples_in,
+    InputView, OutcomeView, SampleWalk, events_at, format_at, view_output, view_refusal,
+    view_samples,
 };
 use std::alloc::Global;
 
@@ -72,7 +74,7 @@ pub fn fill_input(
     input.time = view.time;
     fill_samples(
         &mut input.samples,
-        samples_in(events_at(place), view, bytes),
+        view_samples(events_at(place), view, bytes),
     )
 }
 
@@ -120,7 +122,7 @@ pub fn fill_outcome(
             fill_finished(alloc, outcome, view, bytes)
         }
         OutcomeView::Refused { at } => {
-            *outcome = Outcome::Refused(refusal_in(at, bytes));
+            *outcome = Outcome::Refused(view_refusal(at, bytes));
             Ok(())
         }
     }
@@ -142,13 +144,8 @@ fn fill_finished(
     view: FinishedView,
     bytes: &[u8],
 ) -> Result<(), OutOfMemory>
-    requires shows { (len : ℕ) × (shown : OutcomeValue)
-        × ShowsFinished view.format view.elements view.elements_at view.output_at len bytes.now
-        shown }
-    requires few { view.elements ≤ 65536 }
-    ensures { OnOk result ((len : ℕ) (shown : OutcomeValue)
-        → ShowsFinished view.format view.elements view.elements_at view.output_at len bytes.now
-        shown → outcome.new ≡ shown) }
+    requires { IsFinishedView view bytes.now }
+    ensures { OnOk result (IsShownOutcome view bytes.now outcome.new) }
 {
     match outcome {
         Outcome::Finished { elements, output } => fill_finished_parts(
@@ -163,13 +160,8 @@ fn fill_finished(
 
 /// The outcome of a finished cycle, as an owned value.
 fn decode_finished(alloc: Global, view: FinishedView, bytes: &[u8]) -> Result<Outcome, OutOfMemory>
-    requires shows { (len : ℕ) × (shown : OutcomeValue)
-        × ShowsFinished view.format view.elements view.elements_at view.output_at len bytes.now
-        shown }
-    requires few { view.elements ≤ 65536 }
-    ensures { IfOk result (λ made. (len : ℕ) (shown : OutcomeValue)
-        → ShowsFinished view.format view.elements view.elements_at view.output_at len bytes.now
-        shown → made ≡ shown) }
+    requires { IsFinishedView view bytes.now }
+    ensures { IfOk result (IsShownOutcome view bytes.now) }
 {
     let mut elements = DrawnElements::new(alloc);
     let mut output = Limited::new(alloc);
@@ -184,13 +176,9 @@ fn fill_finished_parts(
     view: FinishedView,
     bytes: &[u8],
 ) -> Result<(), OutOfMemory>
-    requires shows { (len : ℕ) × (shown : OutcomeValue)
-        × ShowsFinished view.format view.elements view.elements_at view.output_at len bytes.now
-        shown }
-    requires few { view.elements ≤ 65536 }
-    ensures { OnOk result ((len : ℕ) (shown : OutcomeValue)
-        → ShowsFinished view.format view.elements view.elements_at view.output_at len bytes.now
-        shown → outcomes.Finished elements.new output.new ≡ shown) }
+    requires { IsFinishedView view bytes.now }
+    ensures { OnOk result (IsShownOutcome view bytes.now
+        (outcomes.Finished elements.new output.new)) }
 {
     let FinishedView {
         format,
@@ -211,5 +199,5 @@ fn fill_output(output: &mut Bytes, output_at: usize, bytes: &[u8]) -> Result<(),
         → OutputOf output.new outcome) }
 {
     output.clear();
-    output.extend_from_slice(output_in(output_at, bytes))
+    output.extend_from_slice(view_output(output_at, bytes))
 }

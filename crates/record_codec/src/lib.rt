@@ -1,5 +1,5 @@
-//! Encoders of headers and frames, and values made of views. Views themselves are in record_view,
-//! which takes no memory.
+//! Encoders of headers and frames part by part (`put_..`), and values made of views in memory that
+//! is kept (`fill_..`, `RunRoom`). Views themselves are in record_view, which takes no memory.
 #![tactic(auto)]
 
 mod decode;

@@ -37,6 +37,7 @@ pub fn put_u8(out: &mut Vec<u8>, n: u8) -> Result<(), AllocError>
 }
 
 /// An element: its length in two bytes, and then its bytes.
+#[tactic(auto, using(crate::proofs::Appending::grows_then))]
 pub fn put_element(out: &mut Vec<u8>, element: &Bytes64) -> Result<(), AllocError>
     ensures ok { OnOk result (out.new.items ≡ out.old.items ++ spelled_element element.now) }
     ensures grows { Grows out.old.items out.new.items }

@@ -1,4 +1,6 @@
 //! Frames and their parts, appended to a record.
+#![tactic(auto, using(crate::proofs::Appending::grows_then))]
+
 ghost use Rattle.std.specs.Prelude.{◌≡◌, ◌<◌, ◌≤◌, ◌++◌, ◌∷◌, length, OnOk};
 ghost use Rattle.std.specs.List.{flat_map, All};
 ghost use Rattle.record_grammar.specs.Spelling.{spelled_element, IsElement, spelled_drawn, MayDraw};
@@ -241,7 +243,7 @@ pub fn put_run_head(
 }
 
 /// The spelling of a frame. On an error a part of it may be there.
-#[tactic(auto, unfolding(record_grammar::specs::Spelling::spelled_frame, record_grammar::specs::Spelling::IsFrame))]
+#[tactic(auto, using(crate::proofs::Appending::grows_then), unfolding(record_grammar::specs::Spelling::spelled_frame, record_grammar::specs::Spelling::IsFrame))]
 pub fn put_frame(
     out: &mut Vec<u8>,
     format: Format,

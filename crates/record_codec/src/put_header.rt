@@ -1,4 +1,6 @@
 //! Headers and their parts, appended to a record.
+#![tactic(auto, using(crate::proofs::Appending::grows_then))]
+
 ghost use Rattle.std.specs.Prelude.{◌≡◌, ◌≤◌, ◌<◌, ◌^◌, ◌++◌, length, OnOk, FitsSigned, ℤ};
 ghost use Rattle.std.specs.Int.{w64};
 ghost use Rattle.std.specs.List.{flat_map, All};
@@ -14,7 +16,7 @@ use det_values::put::{put_slice, put_u16};
 use det_values::{EventSpec, Events, Format, Params, Policy, Profile};
 use std::alloc::AllocError;
 
-fn put_all_signed(out: &mut Vec<u8>, params: &[i64]) -> Result<(), AllocError>
+fn put_param_values(out: &mut Vec<u8>, params: &[i64]) -> Result<(), AllocError>
     ensures ok { OnOk result (out.new.items ≡ out.old.items ++ flat_map spelled_signed params.now) }
     ensures grows { Grows out.old.items out.new.items }
     ensures fields { OnOk result (All (FitsSigned w64) params.now) }
@@ -33,7 +35,7 @@ fn put_params(out: &mut Vec<u8>, params: &Params) -> Result<(), AllocError>
 {
     let params = params.as_slice();
     put_u16(out, params.len() as u16)?;
-    put_all_signed(out, params)?;
+    put_param_values(out, params)?;
     Ok(())
 }
 
@@ -94,7 +96,7 @@ fn version_number(format: Format) -> u16
     }
 }
 
-#[tactic(auto, unfolding(record_grammar::specs::Spelling::magic))]
+#[tactic(auto, using(crate::proofs::Appending::grows_then), unfolding(record_grammar::specs::Spelling::magic))]
 fn put_magic(out: &mut Vec<u8>) -> Result<(), AllocError>
     ensures ok { OnOk result (out.new.items ≡ out.old.items ++ magic) }
     ensures grows { Grows out.old.items out.new.items }
@@ -103,8 +105,8 @@ fn put_magic(out: &mut Vec<u8>) -> Result<(), AllocError>
 }
 
 /// The fields before the parameters.
-#[tactic(auto, unfolding(record_grammar::specs::Spelling::spelled_numbers))]
-fn put_numbers(out: &mut Vec<u8>, profile: &Profile) -> Result<(), AllocError>
+#[tactic(auto, using(crate::proofs::Appending::grows_then), unfolding(record_grammar::specs::Spelling::spelled_numbers))]
+fn put_header_numbers(out: &mut Vec<u8>, profile: &Profile) -> Result<(), AllocError>
     ensures ok { OnOk result (out.new.items ≡ out.old.items ++ spelled_numbers profile.now) }
     ensures grows { Grows out.old.items out.new.items }
     ensures job { OnOk result (profile.now.job < 2 ^ 16) }
@@ -121,13 +123,13 @@ fn put_numbers(out: &mut Vec<u8>, profile: &Profile) -> Result<(), AllocError>
 }
 
 /// The spelling of a header. On an error a part of it may be there.
-#[tactic(auto, unfolding(record_grammar::specs::Spelling::spelled_header))]
+#[tactic(auto, using(crate::proofs::Appending::grows_then), unfolding(record_grammar::specs::Spelling::spelled_header))]
 pub fn put_header(out: &mut Vec<u8>, profile: &Profile) -> Result<(), AllocError>
     ensures ok { OnOk result (out.new.items ≡ out.old.items ++ spelled_header profile.now) }
     ensures grows { Grows out.old.items out.new.items }
     ensures fields { OnOk result (IsHeader profile.now) }
 {
-    put_numbers(out, profile)?;
+    put_header_numbers(out, profile)?;
     put_params(out, &profile.params)?;
     put_events(out, profile.format, &profile.events)?;
     Ok(())

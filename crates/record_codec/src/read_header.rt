@@ -22,7 +22,7 @@ const MAX_CAPACITY: u16 = 1_024;
 
 const MAX_NAME: u8 = 32;
 
-fn all_params(alloc: Global, count: u16, bytes: &[u8]) -> Result<(Params, &[u8]), HeaderStop>
+fn param_list(alloc: Global, count: u16, bytes: &[u8]) -> Result<(Params, &[u8]), HeaderStop>
     requires { count ≤ 16 }
     ensures { Gives (λ x. (x.0, x.1.now)) result (many signed_at count bytes.now) }
 {
@@ -43,11 +43,11 @@ fn params(alloc: Global, bytes: &[u8]) -> Result<(Params, &[u8]), HeaderStop>
     ensures { Gives (λ x. (x.0, x.1.now)) result (params_at bytes.now) }
 {
     let (count, rest) = u16_at(0, MAX_PARAMS, bytes)?;
-    all_params(alloc, count, rest)
+    param_list(alloc, count, rest)
 }
 
 /// A name of `len` bytes. Each byte is checked before the next one is read.
-fn name_of(len: u8, bytes: &[u8]) -> Result<(EventName, &[u8]), HeaderStop>
+fn event_name_of(len: u8, bytes: &[u8]) -> Result<(EventName, &[u8]), HeaderStop>
     requires some { 1 ≤ len }
     requires most { len ≤ 32 }
     ensures { Gives (λ x. (x.0, x.1.now)) result (many name_byte_at len bytes.now) }
@@ -69,7 +69,7 @@ fn name(bytes: &[u8]) -> Result<(EventName, &[u8]), HeaderStop>
     ensures { Gives (λ x. (x.0, x.1.now)) result (name_at bytes.now) }
 {
     let (len, rest) = u8_at(1, MAX_NAME, bytes)?;
-    name_of(len, rest)
+    event_name_of(len, rest)
 }
 
 fn as_policy(n: u8) -> Policy
@@ -111,7 +111,7 @@ fn event(format: Format, bytes: &[u8]) -> Result<(EventSpec, &[u8]), HeaderStop>
     Ok((event, rest))
 }
 
-fn all_events(
+fn event_list(
     alloc: Global,
     format: Format,
     count: u16,
@@ -139,7 +139,7 @@ fn events(alloc: Global, format: Format, bytes: &[u8]) -> Result<(Events, &[u8])
     ensures known { IfOk result (λ x. KnowsPolicies format x.0) }
 {
     let (count, rest) = u16_at(0, MAX_EVENTS, bytes)?;
-    all_events(alloc, format, count, rest)
+    event_list(alloc, format, count, rest)
 }
 
 /// The profile of the header at the front of some bytes, and the rest.

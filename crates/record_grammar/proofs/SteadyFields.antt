@@ -80,10 +80,10 @@ magic_steady =
     steady_then 0 (exactly_at Magic 69) (λ f bytes. exactly_at Magic 67 bytes) (exactly_steady Magic 69) (λ f.
     exactly_steady Magic 67)))))
 
-abbrev format_by : ℕ → List ℕ → Read Format
+abbrev pub format_by : ℕ → List ℕ → Read Format
 format_by b bytes = cond (eqb b 1) (Got (One, bytes)) (cond (eqb b 2) (Got (Two, bytes)) (Bad Version (suc (length bytes))))
 
-format_same : (bytes : List ℕ) → format_at bytes ≡ by_first format_by bytes
+pub format_same : (bytes : List ℕ) → format_at bytes ≡ by_first format_by bytes
 unfolding format_at
 format_same [] = refl
 format_same (b ∷ bytes) = refl
@@ -102,10 +102,10 @@ version_steady =
     steady_then 0 (exactly_at Version 0) (λ high bytes. format_at bytes) (exactly_steady Version 0) (λ high.
     format_steady)
 
-abbrev name_byte_by : ℕ → List ℕ → Read ℕ
+abbrev pub name_byte_by : ℕ → List ℕ → Read ℕ
 name_byte_by b bytes = cond (allowed_in_name b) (Got (b, bytes)) (Bad Range (suc (length bytes)))
 
-name_byte_same : (bytes : List ℕ) → name_byte_at bytes ≡ by_first name_byte_by bytes
+pub name_byte_same : (bytes : List ℕ) → name_byte_at bytes ≡ by_first name_byte_by bytes
 unfolding name_byte_at
 name_byte_same [] = refl
 name_byte_same (b ∷ bytes) = refl

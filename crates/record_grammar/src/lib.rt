@@ -1,5 +1,5 @@
-//! The binary record: how it is spelled, and how bytes are judged from left to right. Its types are
-//! shared by the crates that read a record (record_view) and that write one (record_codec).
+//! The binary record: how it is spelled, and how bytes are judged from left to right. Its types
+//! are shared by the crates that read a record (record_view) and that write one (record_codec).
 #![tactic(auto)]
 
 mod item;

@@ -1,8 +1,7 @@
 -- The results of a reader of items, as those of a reader of frames.
-use Rattle.std.proofs.Common.{◌≡◌, ◌≢◌, ℕ, ◌<◌, List, [], ◌∷◌, ◌++◌, Option, Some, None, Result, Ok, Err, true, refl, sym, ap, subst, ◌∙◌}
+use Rattle.std.proofs.Common.{◌≡◌, ◌≢◌, ℕ, List, [], ◌∷◌, ◌++◌, Option, Some, None, Ok, Err, true, sym, ap, subst, ◌∙◌}
 use Rattle.std.specs.List.{list_any}
 use Rattle.det_values.specs.Values.{ProfileValue}
-use Rattle.det_values.specs.declared.frames.Frame.{Frame}
 use Rattle.det_io.specs.Shelf.{ShelfState, Reads, IsAtEnd}
 use Rattle.det_io.specs.Traffic.{failure_in}
 use Rattle.det_io.specs.declared.failure.Failure.TheVariants.{Read, Write, OutOfMemory}

@@ -1,24 +1,17 @@
 -- The result of a loop that passes the items of a record to a taker, for any reader.
-use Rattle.std.proofs.Common.{◌≡◌, ◌⊎◌, inl, inr, ℕ, ◌<◌, List, [], ◌∷◌, ◌++◌, Option, Some, None, Result, Ok, Err, refl, sym, ap, subst}
-use Rattle.std.proofs.Common.{◌∙◌, append_assoc, append-nil}
+use Rattle.std.proofs.Common.{◌≡◌, ◌⊎◌, inl, inr, ℕ, List, [], ◌++◌, Option, Some, None, Err, refl, sym, ap, subst}
+use Rattle.std.proofs.Common.{◌∙◌, append-nil}
 use Rattle.std.specs.Prelude.{IfSome}
 use Rattle.std.specs.Option.{option_map}
 use Rattle.det_io.specs.declared.failure.Failure.{Failure}
 use Rattle.det_io.specs.declared.failure.Failure.TheVariants.{Read, Write, OutOfMemory}
 use Rattle.det_io.specs.declared.failure.Stopped.{Stopped}
 use Rattle.det_io.specs.declared.failure.Stopped.TheVariants.{Refused, Failed}
-use Rattle.det_io.specs.Prefix.{IsPrefix}
-use Rattle.det_io.specs.Shelf.{ShelfState, Reads, IsAtEnd}
-use Rattle.det_io.specs.Sink.{Grew}
 use Rattle.det_io.specs.Traffic.{ShelfRun, SinkRun, ShelfTraffic, SinkTraffic, failure_in}
-use Rattle.det_io.proofs.Growth.{grew-none, grew-then, part-whole}
-use Rattle.det_io.proofs.Prefixes.{prefix-behind}
-use Rattle.det_io.proofs.SlotReads.{reads-none, reads-then}
 use Rattle.record_grammar.specs.declared.record_fault.RecordFault.{RecordFault}
 use Rattle.record_grammar.specs.declared.item.Item.{Item}
-use Rattle.record_grammar.specs.Record.{items as items_in}
 use Rattle.record_reader.specs.item_reader.StandsFor.{IsFaulty, FoundFault}
-use Rattle.record_reader.specs.ItemTaker.{AreFirst, ItemTaker, Takes, Took, AreAll, RefusedBy, Finds, RecordRead, OfSlot, ItemsRead}
+use Rattle.record_reader.specs.ItemTaker.{ItemTaker, Takes, AreAll, OfSlot}
 
 -- ---- what a slot can have had
 

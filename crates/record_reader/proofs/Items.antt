@@ -96,11 +96,7 @@ can_spell p xs f to bytes rest h =
 
 no_header : (layout : Layout) (place : Place) (p : ProfileValue) → HasLayout layout place → CanFollow place (items.Header p) → ⊥
 no_header layout places.Header p h k = h
-no_header layout (places.Register l) p h k = k
-no_header layout (places.Discover l) p h k = k
-no_header layout (places.Init l) p h k = k
-no_header layout (places.Runs l before) p h k = k
-no_header layout places.End p h k = k
+no_header layout place p h k = elim k [ ]
 
 -- no header comes after a header
 one_header : (p q : ProfileValue) (xs : List Item) (to : Place) (bytes rest : List ℕ)

@@ -32,10 +32,10 @@ use Rattle.record_view.specs.declared.view.OutcomeView.TheVariants as ends
 use Rattle.record_view.specs.Shows.{ShowsParts, ShowsOutcome, events_of}
 use Rattle.record_view.proofs.EqualItems.{span_is_spelling}
 use Rattle.record_reader.specs.declared.salvage.Salvage.{Salvage}
-use Rattle.record_reader.specs.Kinds.{begins_runs, runs_of, refusals_at, refusals_of, kept_bytes}
+use Rattle.record_reader.specs.Kinds.{begins_runs, runs_of, refusals_at, kind_refusals, kept_bytes}
 use Rattle.record_reader.specs.Salvaged.{is_init, refusals_in}
 use Rattle.record_reader.specs.InItems.{run_in}
-use Rattle.record_reader.specs.Salvaged.{refusals_of as refusals_of_outcome}
+use Rattle.record_reader.specs.Salvaged.{refusals_of}
 use Rattle.record_reader.specs.SalvageState.{spelled_unless_last, piece_of, format_after, Keeps, salvaging, Counted, Puts}
 use Rattle.record_reader.specs.ItemTaker.{IsNext, Takes}
 use Rattle.record_reader.proofs.Items.{NextIs, same_format}
@@ -47,12 +47,12 @@ use Rattle.record_reader.proofs.Pieces.{headed-next, more_of, begun-next, writte
 pub record Adds (kind : ItemKind) (item : Item) : Type 0 where
   pub begins : begins_runs kind ≡ is_init item
   pub runs : runs_of kind ≡ length (run_in item)
-  pub refusals : refusals_of kind ≡ refusals_in item
+  pub refusals : kind_refusals kind ≡ refusals_in item
 
 refusals-are : (format : Format) (outcome : OutcomeView) (len : ℕ) (bytes : List ℕ) (o : Outcome) → ShowsOutcome format outcome len bytes o
-    → refusals_at outcome ≡ refusals_of_outcome o
-refusals-are format (ends.Finished elements at output_at) len bytes o h = ap refusals_of_outcome (sym h.is)
-refusals-are format (ends.Refused at) len bytes o h = ap refusals_of_outcome (sym h.is)
+    → refusals_at outcome ≡ refusals_of o
+refusals-are format (ends.Finished elements at output_at) len bytes o h = ap refusals_of (sym h.is)
+refusals-are format (ends.Refused at) len bytes o h = ap refusals_of (sym h.is)
 
 pub adds : (place : Place) (kind : ItemKind) (len : ℕ) (bytes : List ℕ) (item : Item) → ShowsParts place kind len bytes item
     → Adds kind item

@@ -15,14 +15,13 @@ use Rattle.det_io.proofs.Prefixes.{prefix-append, prefix-behind, prefix-same, pr
 use Rattle.det_io.proofs.SlotReads.{reads-none, reads-then}
 use Rattle.record_grammar.specs.declared.record_fault.RecordFault.{RecordFault}
 use Rattle.record_grammar.specs.declared.item.Item.{Item}
-use Rattle.record_grammar.specs.declared.place.Place.TheVariants as places
 use Rattle.record_grammar.specs.Record.{items as items_in, fault_so_far}
 use Rattle.record_view.specs.declared.view.ItemView.{ItemView}
 use Rattle.record_view.specs.Shows.{IsSpelling}
 use Rattle.record_reader.specs.declared.item_reader.reader.ItemReader.{ItemReader}
 use Rattle.record_reader.specs.item_reader.StandsFor.{StandsFor, HasRead, ReadsIfNeeded, ItemIs, Holds, slot_of}
 use Rattle.record_reader.proofs.lemmas.item_reader.Needed.{while-weaker, while-then}
-use Rattle.record_reader.specs.ItemTaker.{AreFirst, IsNext, ItemTaker, Takes, Took, RefusedBy, Finds, RecordRead, IsNeeded, ItemsRead}
+use Rattle.record_reader.specs.ItemTaker.{AreFirst, IsNext, ItemTaker, Takes, Took, Wrote, StopsAt, RefusedBy, Finds, RecordRead, IsNeeded, ItemsRead}
 use Rattle.record_reader.proofs.Items.{are_first, more_items}
 use Rattle.record_reader.proofs.ItemTaker.{at_none, all-before, step, Lifts, quiet-sink}
 
@@ -220,6 +219,12 @@ taker-stopped {E} {first = first} {now = now} {slot = slot} {before = before} {a
     behind : (part : List ℕ) → Grew after last ([] ++ part) → Grew before last (taken.written h.given ++ part)
     behind part grew = grew-then (grew-as h taken same) grew
 
+    there : (stop : Stopped E) (rest : List ℕ) (take : Takes (Err stop) taken h.given answer.2.item [] (step after last a b))
+        → Wrote (Err stop) (taken.written h.given) take.more (step before last c d)
+        → StopsAt stop taken h.given (read ++ rest) (step before last c d)
+    there stop rest take wrote =
+        (answer.2.item, next-all h next view answer rest, record { more = take.more; all = take.all; wrote = wrote; after = take.after })
+
     by : (stop : Stopped E) → Takes (Err stop) taken h.given answer.2.item [] (step after last a b)
         → ItemsRead (Err stop) taken (record { first = first; last = now; stays = stays }) slot (step before last c d)
     by (Refused why) take = record {
@@ -230,17 +235,7 @@ taker-stopped {E} {first = first} {now = now} {slot = slot} {before = before} {a
       record_read = record {
         reads = answer.1.0;
         each = λ rest end. subst (λ (o : Option RecordFault). RefusedBy o why taken h.given (read ++ rest) (step before last c d))
-            (sym take.after.0) (
-              answer.2.item,
-              next-all h next view answer rest,
-              record {
-                more = take.more;
-                all = take.all;
-                wrote = (take.wrote.0, take.wrote.1, behind take.wrote.0 take.wrote.2);
-                after =
-                    take.after;
-              },
-            );
+            (sym take.after.0) (there (Refused why) rest take (take.wrote.0, take.wrote.1, behind take.wrote.0 take.wrote.2));
       };
     }
     by (Failed Read) take = absurd take.after
@@ -251,17 +246,7 @@ taker-stopped {E} {first = first} {now = now} {slot = slot} {before = before} {a
       needed = answer.1.1;
       record_read = record {
         reads = answer.1.0;
-        each = λ rest end. (
-          answer.2.item,
-          next-all h next view answer rest,
-          record {
-            more = take.more;
-            all = take.all;
-            wrote = (take.wrote.0, take.wrote.1, behind take.wrote.0 take.wrote.2);
-            after =
-                take.after;
-          },
-        );
+        each = λ rest end. there (Failed Write) rest take (take.wrote.0, take.wrote.1, behind take.wrote.0 take.wrote.2);
       };
     }
     by (Failed OutOfMemory) take = record {

@@ -18,9 +18,9 @@ abbrev pub refusals_at : OutcomeView → ℕ
 refusals_at (ends.Finished elements at output_at) = 0
 refusals_at (ends.Refused at) = 1
 
-abbrev pub refusals_of : ItemKind → ℕ
-refusals_of (kinds.Frame (frames.Run input outcome)) = refusals_at outcome
-refusals_of kind = 0
+abbrev pub kind_refusals : ItemKind → ℕ
+kind_refusals (kinds.Frame (frames.Run input outcome)) = refusals_at outcome
+kind_refusals kind = 0
 
 -- the bytes of an item of this kind, but none for Terminate
 abbrev pub kept_bytes : ItemKind → List ℕ → List ℕ

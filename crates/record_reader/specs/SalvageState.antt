@@ -18,7 +18,7 @@ use Rattle.record_grammar.specs.Spelling.{spelled_header, spelled_frame}
 use Rattle.record_view.specs.declared.view.ItemKind.{ItemKind}
 use Rattle.record_reader.specs.declared.salvage.Salvage.{Salvage}
 use Rattle.record_reader.specs.declared.salvage.Salvaged.{Salvaged}
-use Rattle.record_reader.specs.Kinds.{begins_runs, runs_of, refusals_of}
+use Rattle.record_reader.specs.Kinds.{begins_runs, runs_of, kind_refusals}
 use Rattle.record_reader.specs.Salvaged.{is_init, kept, written_items, cycles_of}
 use Rattle.record_reader.specs.InItems.{spelled_by}
 use Rattle.record_reader.specs.Salvaged.{refused_of}
@@ -65,7 +65,7 @@ salvaging salvage = record {
 pub record Counted (kind : ItemKind) (old new : Salvage) : Type 0 where
   pub has_begun : new.has_begun ≡ (begins_runs kind || old.has_begun)
   pub cycles : new.cycles ≡ old.cycles + runs_of kind
-  pub refused : new.refused ≡ old.refused + refusals_of kind
+  pub refused : new.refused ≡ old.refused + kind_refusals kind
   pub out : new.out ≡ old.out
 
 -- Once Init was read, all bytes were written, those kept and the next ones, and none is kept.

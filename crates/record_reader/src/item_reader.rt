@@ -1,4 +1,4 @@
-//! Reads the items of a record from a slot, as views of the bytes that it holds. Nothing of an item
+//! Reads the items of a record from a slot, as views of the bytes in a window. Nothing of an item
 //! is copied. Reading takes no memory once the longest item has come.
 
 mod comparison;

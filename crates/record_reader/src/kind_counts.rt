@@ -1,6 +1,6 @@
 //! What an item adds to the counts of a record, by its kind.
 ghost use Rattle.std.specs.Prelude.{◌≡◌, ◌≤◌};
-ghost use Rattle.record_reader.specs.Kinds.{begins_runs, runs_of, refusals_of};
+ghost use Rattle.record_reader.specs.Kinds.{begins_runs, runs_of, kind_refusals};
 
 use record_view::{FrameKind, ItemKind, OutcomeView};
 
@@ -38,8 +38,8 @@ pub fn runs_of(kind: ItemKind) -> u32
 }
 
 /// 1 for the frame of a refused cycle, and 0 for any other item.
-pub fn refusals_of(kind: ItemKind) -> u32
-    ensures value { result ≡ refusals_of kind }
+pub fn kind_refusals(kind: ItemKind) -> u32
+    ensures value { result ≡ kind_refusals kind }
     ensures most { result ≤ runs_of kind }
 {
     match kind {

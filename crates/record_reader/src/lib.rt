@@ -1,4 +1,5 @@
-//! Records in slots: opened and read frame by frame, salvaged, and digested.
+//! Records in slots: opened and read frame by frame, salvaged, digested, and their runs and
+//! refusals counted.
 #![tactic(auto)]
 
 mod digest_sink;

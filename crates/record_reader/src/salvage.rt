@@ -3,7 +3,7 @@ ghost use Rattle.std.specs.Prelude.{◌≡◌, ◌<◌, ◌≤◌, ◌++◌};
 ghost use Rattle.record_grammar.specs.Spelling.{AreBytes};
 ghost use Rattle.record_reader.specs.Kinds.{kept_bytes};
 
-use crate::kind_counts::{begins_runs, refusals_of, runs_of};
+use crate::kind_counts::{begins_runs, kind_refusals, runs_of};
 use det_io::{Sink, Stopped, write_all};
 use det_values::{Format, Frame};
 use record_codec::encode_frame;
@@ -92,7 +92,7 @@ impl Salvage {
     {
         self.has_begun = begins_runs(kind) || self.has_begun;
         self.cycles += runs_of(kind);
-        self.refused += refusals_of(kind);
+        self.refused += kind_refusals(kind);
     }
 
     /// Keeps bytes before Init. From Init on, writes them after those that were kept.

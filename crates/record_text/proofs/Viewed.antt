@@ -1,32 +1,19 @@
 -- What the views of a frame's parts say of its lines.
-use Rattle.std.proofs.Common.{◌≡◌, ℕ, ◌+◌, ◌≤◌, List, [], ◌∷◌, ◌++◌, length, drop, map, Option, Result, Ok, Err, refl, sym, ap, subst, ◌∙◌}
+use Rattle.std.proofs.Common.{◌≡◌, ℕ, ◌+◌, List, [], ◌∷◌, ◌++◌, length, map, Option, refl, sym, ap, ◌∙◌}
 use Rattle.std.proofs.Common.{append_assoc}
 use Rattle.std.proofs.lemmas.List.{length-map}
-use Rattle.std.specs.Prelude.{OnOk, codes}
+use Rattle.std.specs.Prelude.{codes}
 use Rattle.std.specs.List.{flat_map}
 use Rattle.det_values.specs.Values.{SampleValue}
 use Rattle.det_values.specs.declared.format.Format.{Format}
 use Rattle.det_values.specs.declared.format.Format.TheVariants.{One}
 use Rattle.det_values.specs.declared.frames.DrawnElement.{DrawnElement}
-use Rattle.det_values.specs.declared.frames.Frame.{Frame}
-use Rattle.det_values.specs.declared.frames.Frame.TheVariants as frames
 use Rattle.det_values.specs.declared.frames.Outcome.{Outcome}
 use Rattle.det_values.specs.declared.frames.Outcome.TheVariants.{Finished, Refused}
 use Rattle.det_values.specs.declared.frames.RunFrame.{RunFrame}
-use Rattle.record_grammar.specs.Read.{Got, many}
-use Rattle.record_grammar.specs.Grammar.{element_at}
-use Rattle.record_grammar.specs.declared.place.Place.{Place}
-use Rattle.record_view.specs.declared.view.FrameKind.{FrameKind}
-use Rattle.record_view.specs.declared.view.FrameKind.TheVariants as kinds
-use Rattle.record_view.specs.declared.view.FrameView.{FrameView}
 use Rattle.record_view.specs.Parts.{undrawn, ElementsOf, OutputOf}
-use Rattle.record_view.specs.Shows.{ShowsFrame, IsFrameSpelling}
 use Rattle.record_text.specs.Words.{number_line, numbered_texts}
 use Rattle.record_text.specs.Records.{element_line, drawn_line, run_line, sample_line, output_line, outcome_lines, run_lines}
-
-pub then-ok : {A E P Q : Type 0} (r : Result A E) → (P → Q) → OnOk r P → OnOk r Q
-then-ok (Ok x) then h = then h
-then-ok (Err e) then h = tt
 
 three : (old x y z a b new : List ℕ) → a ≡ old ++ x → b ≡ a ++ y → new ≡ b ++ z → new ≡ old ++ (x ++ (y ++ z))
 three old x y z a b new ea eb en =
@@ -49,26 +36,6 @@ init_put es elements count old mid new is counted first then =
     ∙ append_assoc old (number_line (codes "init") (length elements)) (numbered_texts (drawn_line One) 0 es)
     ∙ ap (λ (l : List ℕ). old ++ (number_line (codes "init") (length elements) ++ l))
     (ap (numbered_texts (drawn_line One) 0) is ∙ undrawn_lines 0 elements)
-
-pub record IsInit (count len : ℕ) (bytes : List ℕ) (frame : Frame) : Type 0 where
-  pub elements : List (List ℕ)
-  pub is : frame ≡ frames.Init elements
-  pub reads : many element_at count (drop 5 bytes) ≡ Got (elements, drop len bytes)
-  pub long : 5 ≤ len
-
-init_by : (place : Place) (count len : ℕ) (bytes : List ℕ) (frame : Frame) → ShowsFrame place (kinds.Init count) len bytes frame
-    → IsInit count len bytes frame
-init_by place count len bytes (frames.Init es) h = record { elements = es; is = refl; reads = h.0; long = h.1 }
-init_by place count len bytes frames.Register h = absurd h
-init_by place count len bytes frames.Discover h = absurd h
-init_by place count len bytes (frames.Run r) h = absurd h
-init_by place count len bytes frames.Terminate h = absurd h
-
--- the elements that the view of an Init frame shows
-pub is_init : (view : FrameView) (count : ℕ) (frame : Frame) (bytes : List ℕ) → view.kind ≡ kinds.Init count
-    → IsFrameSpelling view frame bytes → IsInit count view.len bytes frame
-is_init view count frame bytes is h =
-    init_by view.place count view.len bytes frame (subst (λ (k : FrameKind). ShowsFrame view.place k view.len bytes frame) is h.shows.parts)
 
 -- ---- Run
 

@@ -20,8 +20,8 @@ use crate::put_text::{put_hex, put_number, put_number_line, put_signed, put_str}
 use det_values::{Format, OutOfMemory, RefusedAt, Sample};
 use record_grammar::Place;
 use record_view::{
-    ElementWalk, FrameKind, FrameView, InputView, OutcomeView, SampleWalk, elements_in, events_at,
-    format_at, init_elements_in, output_in, refusal_in, samples_in,
+    ElementWalk, FrameKind, FrameView, InputView, OutcomeView, SampleWalk, events_at, format_at,
+    view_elements, view_init_elements, view_output, view_refusal, view_samples,
 };
 use std::alloc::AllocError;
 
@@ -169,8 +169,8 @@ fn put_finished_lines(
         → out.new.items ≡ out.old.items ++ outcome_lines format outcome) }
 {
     put_number_line(out, "finished", count as u64)?;
-    put_drawn_lines(out, format, count, elements_in(format, count, at, bytes))?;
-    put_output_line(out, output_in(output_at, bytes))
+    put_drawn_lines(out, format, count, view_elements(format, count, at, bytes))?;
+    put_output_line(out, view_output(output_at, bytes))
 }
 
 fn put_outcome_lines(
@@ -190,7 +190,7 @@ fn put_outcome_lines(
             elements_at,
             output_at,
         } => put_finished_lines(out, format, elements, elements_at, output_at, bytes),
-        OutcomeView::Refused { at } => put_refused_line(out, &refusal_in(at, bytes)),
+        OutcomeView::Refused { at } => put_refused_line(out, &view_refusal(at, bytes)),
     }
 }
 
@@ -211,7 +211,7 @@ fn put_run_lines(
         → out.new.items ≡ out.old.items ++ run_lines (format_of place) cycle run) }
 {
     put_run_line(out, cycle, input.time)?;
-    put_sample_lines(out, samples_in(events_at(place), input, bytes))?;
+    put_sample_lines(out, view_samples(events_at(place), input, bytes))?;
     put_outcome_lines(out, format_at(place), outcome, bytes)
 }
 
@@ -225,7 +225,7 @@ fn put_init_lines(out: &mut Vec<u8>, count: u32, bytes: &[u8]) -> Result<(), All
         ++ numbered_texts element_line 0 elements)) }
 {
     put_number_line(out, "init", count as u64)?;
-    put_drawn_lines(out, Format::One, count, init_elements_in(count, bytes))
+    put_drawn_lines(out, Format::One, count, view_init_elements(count, bytes))
 }
 
 fn put_frame(out: &mut Vec<u8>, cycle: u32, view: FrameView, bytes: &[u8]) -> Result<(), AllocError>

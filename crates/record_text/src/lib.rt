@@ -1,4 +1,4 @@
-//! Records and summaries as text, line by line.
+//! Records and summaries as text, line by line, in a buffer of lines.
 //!
 //! Each function appends to a text, and `specs/` defines what it appends. A frame is printed from
 //! its view and its bytes, so no value is made of it.

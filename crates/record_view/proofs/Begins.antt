@@ -11,7 +11,7 @@ use Rattle.record_grammar.specs.declared.place.Place.{Place}
 use Rattle.record_grammar.specs.declared.place.Place.TheVariants as places
 use Rattle.record_grammar.specs.declared.item.Item.{Item}
 use Rattle.record_grammar.specs.declared.item.Item.TheVariants as items
-use Rattle.record_grammar.specs.Read.{Read, Got, More, Bad, ◌>>=◌}
+use Rattle.record_grammar.specs.Read.{Read, Got, Bad, ◌>>=◌}
 use Rattle.record_grammar.specs.Numbers.{number}
 use Rattle.record_grammar.specs.Grammar.{profile_at, input_at, refused_at, tag_reason, init_from, finished_from, init_at, finished_at}
 use Rattle.record_grammar.specs.Grammar.{run_at, tagged_at, frame_at, item_at}
@@ -19,19 +19,9 @@ use Rattle.record_grammar.proofs.Steady.{IsSteady, steady_same, steady_give, ste
 use Rattle.record_grammar.proofs.Steady.{steady_first}
 use Rattle.record_grammar.proofs.SteadyFields.{number_steady, profile_steady, input_steady, refused_steady, init_from_steady}
 use Rattle.record_grammar.proofs.SteadyFields.{finished_from_steady, framed_steady}
+use Rattle.record_grammar.proofs.lemmas.record_laws.LawfulFields.{bind_bind, bind_same}
 use Rattle.record_grammar.specs.Laws.{tag_reason_at}
 use Rattle.record_view.specs.Opening.{OpeningValue, ready, init_of, run_of, run_opening, tagged_opening, opening_at, framed, go_on}
-
-pub bind_bind : {A B C : Type 0} (r : Read A) (f : A × List ℕ → Read B) (g : B × List ℕ → Read C) → ((r >>= f) >>= g)
-    ≡ (r >>= λ x. f x >>= g)
-bind_bind (Got x) f g = refl
-bind_bind More f g = refl
-bind_bind (Bad reason left) f g = refl
-
-pub bind_same : {A B : Type 0} (r : Read A) (f g : A × List ℕ → Read B) → ((x : A × List ℕ) → f x ≡ g x) → (r >>= f) ≡ (r >>= g)
-bind_same (Got x) f g h = h x
-bind_same More f g h = refl
-bind_same (Bad reason left) f g h = refl
 
 -- ---- the first bytes are read steadily
 

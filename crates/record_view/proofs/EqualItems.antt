@@ -1,5 +1,5 @@
 -- Equal items have equal bytes, and the other way round.
-use Rattle.std.proofs.Common.{◌≡◌, ◌≤◌, ℕ, List, [], ◌∷◌, length, take, refl, sym, ap, subst, ◌∙◌, arith}
+use Rattle.std.proofs.Common.{◌≡◌, ◌≤◌, ℕ, List, [], ◌∷◌, length, take, refl, sym, ap, subst, ◌∙◌}
 use Rattle.std.proofs.lemmas.List.{append-nil}
 use Rattle.record_grammar.specs.Laws.{item_spelling}
 use Rattle.record_grammar.proofs.lemmas.record_laws.InPlaces.{few_fit}

@@ -14,3 +14,4 @@ pub mod Walked
 pub mod Undrawn
 pub mod EqualItems
 pub mod Headers
+pub mod InitFrames

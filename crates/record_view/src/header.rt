@@ -77,6 +77,7 @@ pub fn version(bytes: &[u8]) -> Result<(Format, &[u8]), Stop>
     format_of(rest)
 }
 
+#[tactic(auto, using(crate::proofs::Over::over_begin, crate::proofs::Over::over_next))]
 fn skip_all_params(count: u16, bytes: &[u8]) -> Result<&[u8], Stop>
     ensures { SkipsMany (λ x. x.now) count result (many signed_at count bytes.now) }
 {
@@ -118,6 +119,7 @@ pub fn name_byte(bytes: &[u8]) -> Result<(u8, &[u8]), Stop>
     }
 }
 
+#[tactic(auto, using(crate::proofs::Over::over_begin, crate::proofs::Over::over_next))]
 fn skip_name_of(len: u8, bytes: &[u8]) -> Result<&[u8], Stop>
     ensures { SkipsMany (λ x. x.now) len result (many name_byte_at len bytes.now) }
 {
@@ -162,6 +164,7 @@ fn skip_event(format: Format, bytes: &[u8]) -> Result<&[u8], Stop>
     Ok(rest)
 }
 
+#[tactic(auto, using(crate::proofs::Over::over_begin, crate::proofs::Over::over_next))]
 fn skip_all_events(format: Format, count: u16, bytes: &[u8]) -> Result<&[u8], Stop>
     ensures { SkipsMany (λ x. x.now) count result (many (event_at format) count bytes.now) }
 {

@@ -39,6 +39,7 @@ pub fn sample(events: u16, bytes: &[u8]) -> Result<(u16, i64, &[u8]), Stop>
 }
 
 /// Skips `count` samples and returns the rest.
+#[tactic(auto, using(crate::proofs::Over::over_begin, crate::proofs::Over::over_next))]
 pub fn skip_samples(events: u16, count: u32, bytes: &[u8]) -> Result<&[u8], Stop>
     ensures { SkipsMany (λ x. x.now) count result (many (sample_at events) count bytes.now) }
 {

@@ -1,12 +1,13 @@
 //! The place after an item, and what a place says of its record.
-ghost use Rattle.std.specs.Prelude.{◌≡◌, ℕ, List};
+ghost use Rattle.std.specs.Prelude.{◌≡◌, ℕ, List, IfSome, IfNone};
+ghost use Rattle.det_values.specs.declared.format.Format.TheVariants.{One};
 ghost use Rattle.record_grammar.specs.declared.item.Item.{Item};
 ghost use Rattle.record_grammar.specs.Places.{after, format_of, CanFollow};
 ghost use Rattle.record_view.specs.Shows.{ShowsParts, events_of};
 
 use crate::view::{FrameKind, ItemKind};
 use det_values::Format;
-use record_grammar::Place;
+use record_grammar::{Layout, Place};
 
 /// The place after an item of this kind in `place`.
 pub fn place_after(place: Place, kind: ItemKind) -> Place
@@ -31,16 +32,28 @@ pub fn place_after(place: Place, kind: ItemKind) -> Place
     }
 }
 
-/// The number of events in this record; 0 where no frame follows.
-pub fn events_at(place: Place) -> u16
-    ensures { result ≡ events_of place }
+/// What the frames after a place depend on, if frames may follow it.
+fn layout_at(place: Place) -> Option<Layout>
+    ensures some { IfSome result (λ layout. (layout.events ≡ events_of place)
+        × (layout.format ≡ format_of place)) }
+    ensures none { IfNone result ((events_of place ≡ 0) × (format_of place ≡ One)) }
 {
     match place {
         Place::Register(layout)
         | Place::Discover(layout)
         | Place::Init(layout)
-        | Place::Runs(layout, _) => layout.events,
-        Place::Header | Place::End => 0,
+        | Place::Runs(layout, _) => Some(layout),
+        Place::Header | Place::End => None,
+    }
+}
+
+/// The number of events in this record; 0 where no frame follows.
+pub fn events_at(place: Place) -> u16
+    ensures { result ≡ events_of place }
+{
+    match layout_at(place) {
+        Some(layout) => layout.events,
+        None => 0,
     }
 }
 
@@ -48,11 +61,8 @@ pub fn events_at(place: Place) -> u16
 pub fn format_at(place: Place) -> Format
     ensures { result ≡ format_of place }
 {
-    match place {
-        Place::Register(layout)
-        | Place::Discover(layout)
-        | Place::Init(layout)
-        | Place::Runs(layout, _) => layout.format,
-        Place::Header | Place::End => Format::One,
+    match layout_at(place) {
+        Some(layout) => layout.format,
+        None => Format::One,
     }
 }

@@ -16,7 +16,7 @@ use crate::walk::{ElementWalk, SampleWalk};
 use det_values::{Format, RefusedAt};
 
 /// The samples of a cycle.
-pub fn samples_in(events: u16, places: InputView, bytes: &[u8]) -> SampleWalk<'_>
+pub fn view_samples(events: u16, places: InputView, bytes: &[u8]) -> SampleWalk<'_>
     requires { (input : CycleInput) × ShowsInput events places bytes.now input }
     ensures is { (input : CycleInput) → ShowsInput events places bytes.now input
         → result ≡ input.samples }
@@ -30,7 +30,7 @@ pub fn samples_in(events: u16, places: InputView, bytes: &[u8]) -> SampleWalk<'_
 }
 
 /// The elements of an Init frame, with draws of 0.
-pub fn init_elements_in(count: u32, bytes: &[u8]) -> ElementWalk<'_>
+pub fn view_init_elements(count: u32, bytes: &[u8]) -> ElementWalk<'_>
     requires { (elements : List (List ℕ)) × (rest : List ℕ)
         × (many element_at count (drop 5 bytes.now) ≡ Got (elements, rest))
         × (5 ≤ length bytes.now) }
@@ -47,7 +47,7 @@ pub fn init_elements_in(count: u32, bytes: &[u8]) -> ElementWalk<'_>
 }
 
 /// The elements of a finished cycle.
-pub fn elements_in(format: Format, count: u32, at: usize, bytes: &[u8]) -> ElementWalk<'_>
+pub fn view_elements(format: Format, count: u32, at: usize, bytes: &[u8]) -> ElementWalk<'_>
     requires { (output_at len : ℕ) × (outcome : Outcome)
         × ShowsFinished format count at output_at len bytes.now outcome }
     ensures is { (output_at len : ℕ) (outcome : Outcome)
@@ -63,7 +63,7 @@ pub fn elements_in(format: Format, count: u32, at: usize, bytes: &[u8]) -> Eleme
 }
 
 /// The output of a finished cycle.
-pub fn output_in(output_at: usize, bytes: &[u8]) -> &[u8]
+pub fn view_output(output_at: usize, bytes: &[u8]) -> &[u8]
     requires { (format : Format) × (count at len : ℕ) × (outcome : Outcome)
         × ShowsFinished format count at output_at len bytes.now outcome }
     ensures { (format : Format) (count at len : ℕ) (outcome : Outcome)
@@ -77,7 +77,7 @@ pub fn output_in(output_at: usize, bytes: &[u8]) -> &[u8]
 }
 
 /// The place and the code of a refused cycle.
-pub fn refusal_in(at: usize, bytes: &[u8]) -> RefusedAt
+pub fn view_refusal(at: usize, bytes: &[u8]) -> RefusedAt
     requires { (len : ℕ) × (outcome : Outcome) × ShowsRefused at len bytes.now outcome }
     ensures { (len : ℕ) (outcome : Outcome) → ShowsRefused at len bytes.now outcome → outcome
         ≡ outcomes.Refused result }

@@ -3,7 +3,7 @@ ghost use Rattle.std.specs.Prelude.{◌≡◌};
 ghost use Rattle.record_grammar.specs.Grammar.{element_at, drawn_at};
 ghost use Rattle.record_view.specs.Skips.{IsSkip};
 
-use crate::field::{drawn_element, element};
+use crate::field::drawn_element;
 use crate::stop::Stop;
 use det_values::Format;
 
@@ -18,34 +18,11 @@ pub struct Skip {
     pub stop: Option<Stop>,
 }
 
-/// Skips up to `most` elements of an Init frame.
+/// Skips up to `most` elements of an Init frame, which are spelled as those of format 1.
 pub fn skip_elements(most: u32, bytes: &[u8]) -> Skip
     ensures { IsSkip element_at most result bytes.now }
 {
-    let mut left = most;
-    let mut rest = bytes;
-    while left > 0 {
-        match element(rest) {
-            Ok((_, others)) => {
-                rest = others;
-                left -= 1;
-            }
-            Err(stop) => {
-                let read = bytes.len() - rest.len();
-                return Skip {
-                    left,
-                    read,
-                    stop: Some(stop),
-                };
-            }
-        }
-    }
-    let read = bytes.len() - rest.len();
-    Skip {
-        left,
-        read,
-        stop: None,
-    }
+    skip_drawn(Format::One, most, bytes)
 }
 
 /// Skips up to `most` elements of a finished cycle.

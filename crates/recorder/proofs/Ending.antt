@@ -1,12 +1,12 @@
 -- How a run ends.
-use Rattle.std.proofs.Common.{◌≡◌, ◌≤◌, inl, inr, ℕ, List, [], ◌∷◌, ◌++◌, length, refl, sym, ap, subst, ◌∙◌, append-nil}
-use Rattle.std.specs.Prelude.{Bool, true, false, Option, Some, None, Result, Ok, Err}
+use Rattle.std.proofs.Common.{◌≡◌, inl, inr, ℕ, List, [], ◌∷◌, ◌++◌, length, refl, sym, ap, subst, ◌∙◌, append-nil}
+use Rattle.std.specs.Prelude.{true, false, Result, Ok, Err}
 use Rattle.det_values.specs.Values.{ProfileValue}
 use Rattle.det_values.specs.declared.frames.CycleInput.{CycleInput}
 use Rattle.det_values.specs.declared.frames.RunFrame.{RunFrame}
 use Rattle.det_values.specs.declared.frames.Frame.TheVariants.{Run, Terminate}
 use Rattle.det_io.specs.Prefix.{IsPrefix}
-use Rattle.det_io.specs.Sink.{Grew, GrewByPrefix, GrewShort, Same}
+use Rattle.det_io.specs.Sink.{Grew, GrewShort}
 use Rattle.det_io.specs.Shelf.{ShelfState, Reads, IsAtEnd}
 use Rattle.det_io.specs.Traffic.{ShelfRun, SinkRun}
 use Rattle.det_io.specs.declared.failure.Failure.{Failure}
@@ -20,7 +20,7 @@ use Rattle.job.specs.Meaning.{Meaning}
 use Rattle.cycle_engine.specs.Frames.{runs}
 use Rattle.record_grammar.specs.Spelling.{spelled_frame}
 use Rattle.stimulus.specs.declared.stimulus_item.StimulusFault.{StimulusFault}
-use Rattle.stimulus.specs.Reading.{Reading, Ending, Terminated, BadLine, reading, inputs_of, ending_of, blocks, ending, has_bad}
+use Rattle.stimulus.specs.Reading.{Reading, Ending, Terminated, BadLine, inputs_of, ending_of, blocks, ending}
 use Rattle.stimulus.proofs.Growing.{blocks_grow, bad_stays}
 use Rattle.probes.specs.Reports.{AudienceState}
 use Rattle.probes.specs.Shows.{Shows, ShowsPartly, ShowsFirst}
@@ -28,14 +28,15 @@ use Rattle.probes.proofs.Shown.{shows-none}
 use Rattle.recorder.specs.declared.run_writer.counts.Counts.{Counts}
 use Rattle.recorder.specs.declared.run_writer.recording.Recording.{Recording}
 use Rattle.recorder.specs.run_writer.Record.{Counted, record_with, opening}
-use Rattle.recorder.specs.run_writer.Recording.{Cuts, Ran}
+use Rattle.recorder.specs.run_writer.Recording.{Cuts, IsRecordingAfter, Ran}
 use Rattle.recorder.proofs.lemmas.run_writer.Growing.{runs-none, record-opened, record-next, record-ended, record-front}
 use Rattle.stimulus.specs.declared.slot_reader.stimulus_reader.StimulusReader.{StimulusReader}
 use Rattle.stimulus.specs.slot_reader.StandsFor.{InputIs, IsNext, HasAll, IsWhole, IsBad, events_of}
 use Rattle.recorder.specs.Record.{is_terminated, record_of}
 use Rattle.recorder.specs.RunEnds.{Finishes, Stops, Ended}
-use Rattle.recorder.specs.RecordRun.{TookAll, IsShown, HasRun}
-use Rattle.recorder.proofs.Running.{Running, next_run, frames-next, runs-next}
+use Rattle.recorder.specs.RecordRun.{TookAll, UnlessCut, IsShown, HasRun, IsRecorded}
+use Rattle.recorder.proofs.Running.{Answered, HasNext, Running, next_run, next-read, next-ran, frames-next, runs-next}
+use Rattle.recorder.proofs.KnownText.{recorded}
 
 -- a fact about what was read is one about the whole text where nothing follows
 at_text : (P : List ℕ → Type 0) (read rest : List ℕ) → rest ≡ [] → P read → P (read ++ rest)
@@ -46,6 +47,13 @@ abbrev IsCut : Failure → Type 0
 IsCut Read = ⊥
 IsCut Write = Unit {0}
 IsCut OutOfMemory = Unit {0}
+
+unless-cut : {fact : Type 0} (result : Result Counts (Stopped StimulusFault)) → fact → UnlessCut result fact
+unless-cut (Ok counts) fact = fact
+unless-cut (Err (Refused fault)) fact = fact
+unless-cut (Err (Failed Read)) fact = fact
+unless-cut (Err (Failed Write)) fact = tt
+unless-cut (Err (Failed OutOfMemory)) fact = tt
 
 module _ {S G E L P : Type 0} (m : Meaning S G E L P) (profile : ProfileValue) where
   -- the record of the first inputs is a prefix of that of every text that goes on
@@ -104,15 +112,22 @@ module _ {S G E L P : Type 0} (m : Meaning S G E L P) (profile : ProfileValue) w
   shown-given read before after audience last given OutOfMemory cut first taken shows = record
       { inputs = given; first = first; taken = taken; shown = inl shows; whole = tt }
 
-  -- all that was read was run and shown
-  all-shown : (read : List ℕ) (audience last : AudienceState) (given : List CycleInput) → blocks (length profile.events) read ≡ given
-      → Shows audience last (runs m profile given)
-      → Shows audience last (runs m profile (blocks (length profile.events) read))
-  all-shown read audience last given is shows = subst (λ xs. Shows audience last (runs m profile xs)) (sym is) shows
-
   all-first : (read : List ℕ) (given : List CycleInput) → blocks (length profile.events) read ≡ given
       → IsPrefix given (blocks (length profile.events) read)
   all-first read given is = subst (λ xs. IsPrefix given xs) (sym is) (prefix-same given)
+
+  -- all that was read was run and shown
+  all-shown : (result : Result Counts (Stopped StimulusFault)) (read : List ℕ) (before after : List ℕ → Type 0)
+      (audience last : AudienceState) (given : List CycleInput) → blocks (length profile.events) read ≡ given
+      → TookAll m profile given before after → Shows audience last (runs m profile given)
+      → IsShown m profile read before after audience last result
+  all-shown result read before after audience last given is taken shows = record {
+    inputs = given;
+    first = all-first read given is;
+    taken = taken;
+    shown = inl shows;
+    whole = unless-cut result (subst (λ xs. Shows audience last (runs m profile xs)) (sym is) shows);
+  }
 
   record-is : (text : List ℕ) (given : List CycleInput) (ended : Ending) → blocks (length profile.events) text ≡ given
       → ending (length profile.events) text ≡ ended
@@ -149,77 +164,28 @@ module _ {S G E L P : Type 0} (m : Meaning S G E L P) (profile : ProfileValue) w
   )
 
   module _ (slot : ℕ) (shelf : ShelfRun) (sink : SinkRun) (audience : AudienceState) where
-    -- a bad line, or a failure of the reader
-    pub reading-stopped : {mid : ShelfState} {last : AudienceState} {reader : StimulusReader} {recording : Recording S G E L P}
-        {read : List ℕ} {given : List CycleInput}
-        (next : StimulusReader) (why : Stopped StimulusFault)
-        → Running m profile shelf.first mid slot sink.before sink.after audience last reader recording read given
-        → (all : List ℕ) × Reads shelf.first shelf.last slot all × InputIs (Err why) next (IsAtEnd shelf.last slot) all given
-        → events_of next ≡ length profile.events → HasRun m profile slot shelf sink audience last (Err why)
-    reading-stopped {last = last} {given = given} next (Refused fault) running (all, reads, h) events =
-        let bad : IsBad fault.line (length profile.events) (IsAtEnd shelf.last slot) all given = subst
-        (λ n. IsBad fault.line n (IsAtEnd shelf.last slot) all given) events h in (
-          all,
-          reads,
-          elim bad.found as (λ _. Ended m profile (Err (Refused fault)) all (IsAtEnd shelf.last slot) sink.before sink.after) [
-            | inl fed ↦ record {
-              reads_to = inl fed;
-              answers = λ rest end. stops-at sink.before sink.after (all ++ rest) given fault.line
-                  (ap (λ (r : Reading). inputs_of r.items) (bad_stays (length profile.events) all rest fed) ∙ bad.blocks)
-                  (ap ending_of (bad_stays (length profile.events) all rest fed) ∙ bad.ending) running.grew;
-            }
-            | inr end ↦ record {
-              reads_to = inr end;
-              answers = λ rest none. at_text (λ text. Stops m profile text fault.line sink.before sink.after) all rest (none end)
-                  (stops-at sink.before sink.after all given fault.line bad.blocks bad.ending running.grew);
-            }
-          ],
-          record {
-            inputs = given;
-            first = all-first all given bad.blocks;
-            taken = took-all sink.before sink.after given running.grew;
-            shown = inl running.shown;
-            whole = all-shown all audience last given bad.blocks running.shown;
-          },
-        )
-    reading-stopped {last = last} {given = given} next (Failed Read) running (all, reads, h) events =
-        let has : HasAll (length profile.events) all given = subst (λ n. HasAll n all given) events h.1 in (
-          all,
-          reads,
-          record {
-            reads_to = (has.good, subst (λ xs. Grew sink.before sink.after (record_with m profile xs false)) (sym has.blocks) running.grew);
-            answers = λ rest end. part-wider sink.before sink.after _ (record_of m profile (all ++ rest))
-                (part-whole sink.before sink.after _ running.grew)
-                (record-within given all rest (all-first all given has.blocks));
-          },
-          record {
-            inputs = given;
-            first = all-first all given has.blocks;
-            taken = took-all sink.before sink.after given running.grew;
-            shown = inl running.shown;
-            whole = all-shown all audience last given has.blocks running.shown;
-          },
-        )
-    reading-stopped next (Failed Write) running (all, reads, h) events = absurd h
-    reading-stopped {last = last} {given = given} next (Failed OutOfMemory) running (all, reads, h) events =
-        let first : IsPrefix given (blocks (length profile.events) all) = subst (λ n. IsPrefix given (blocks n all)) events h in (
-          all,
-          reads,
-          part-of-record sink.before sink.after given all _ first running.grew,
-          shown-given all sink.before sink.after audience last given OutOfMemory tt first
-              (took-all sink.before sink.after given running.grew) running.shown,
-        )
+    -- the frames of these inputs were written, and then memory ran out
+    out-of-memory : (last : AudienceState) (all : List ℕ) (given : List CycleInput) → Reads shelf.first shelf.last slot all
+        → IsPrefix given (blocks (length profile.events) all)
+        → Grew sink.before sink.after (record_with m profile given false) → Shows audience last (runs m profile given)
+        → HasRun m profile slot shelf sink audience last (Err (Failed OutOfMemory))
+    out-of-memory last all given reads first grew shows = (
+      all,
+      reads,
+      part-of-record sink.before sink.after given all _ first grew,
+      shown-given all sink.before sink.after audience last given OutOfMemory tt first (took-all sink.before sink.after given grew) shows,
+    )
 
     module _ {mid : ShelfState} {took : List ℕ → Type 0} {seeing : AudienceState} {reader : StimulusReader}
         {recording : Recording S G E L P} {read : List ℕ} {given : List CycleInput}
         (running : Running m profile shelf.first mid slot sink.before took audience seeing reader recording read given) where
       -- the next run wasn't written
-      pub cycle-failed : (input : CycleInput) (failure : Failure) (all : List ℕ) → Reads shelf.first shelf.last slot all
+      cycle-cut : (input : CycleInput) (failure : Failure) (all : List ℕ) → Reads shelf.first shelf.last slot all
           → IsNext input (length profile.events) all given
           → Cuts failure took sink.after (spelled_frame profile.format (Run (next_run m profile given input)))
           → HasRun m profile slot shelf sink audience seeing (Err (Failed failure))
-      cycle-failed input Read all reads next cut = absurd cut
-      cycle-failed input Write all reads next cut =
+      cycle-cut input Read all reads next cut = absurd cut
+      cycle-cut input Write all reads next cut =
           let first = prefix-then given _ _ (prefix-append given (input ∷ [])) next.first in (
             all,
             reads,
@@ -229,89 +195,144 @@ module _ {S G E L P : Type 0} (m : Meaning S G E L P) (profile : ProfileValue) w
             shown-given all sink.before sink.after audience seeing given Write tt first
                 (took-more sink.before took sink.after given cut.0 running.grew cut.2) running.shown,
           )
-      cycle-failed input OutOfMemory all reads next cut =
-          let first = prefix-then given _ _ (prefix-append given (input ∷ [])) next.first in
-          let grew = grew-same running.grew cut in (
-            all,
-            reads,
-            part-of-record sink.before sink.after given all _ first grew,
-            shown-given all sink.before sink.after audience seeing given OutOfMemory tt first (took-all sink.before sink.after given grew)
-                running.shown,
-          )
+      cycle-cut input OutOfMemory all reads next cut =
+          out-of-memory seeing all given reads (prefix-then given _ _ (prefix-append given (input ∷ [])) next.first)
+          (grew-same running.grew cut) running.shown
+
+      pub cycle-failed : {next : StimulusReader} {input : CycleInput} (failure : Failure)
+          → HasNext input shelf.first shelf.last slot (length profile.events) next given
+          → ((given : List CycleInput) → IsRecordingAfter m recording given
+          → Cuts failure took sink.after (spelled_frame recording.profile.format (Run (next_run m recording.profile given input))))
+          → IsRecorded m profile slot shelf sink audience seeing (Err (Failed failure))
+      cycle-failed {input = input} failure n cut =
+          recorded m profile slot shelf sink audience seeing _ (cycle-cut input failure n.all n.reads n.is
+          (subst (λ (p : ProfileValue). Cuts failure took sink.after (spelled_frame p.format (Run (next_run m p given input))))
+          running.same_profile (cut given running.stands)))
 
       -- it was written, and couldn't be shown to all
-      pub show-failed : {last : AudienceState} {ran : Recording S G E L P} (input : CycleInput) (run : RunFrame) (all : List ℕ)
-          → Reads shelf.first shelf.last slot all
-          → IsNext input (length profile.events) all given → Ran m profile given input ran run took sink.after → ShowsPartly seeing last run
-          → HasRun m profile slot shelf sink audience last (Err (Failed OutOfMemory))
-      show-failed input run all reads next ran partly =
-          let grew = frames-next m profile input run running ran.run ran.took in (
-            all,
-            reads,
-            part-of-record sink.before sink.after (given ++ input ∷ []) all _ next.first grew,
+      pub show-failed : {next : StimulusReader} {input : CycleInput} {last : AudienceState} {ran : Recording S G E L P} {run : RunFrame}
+          → HasNext input shelf.first shelf.last slot (length profile.events) next given
+          → ((given : List CycleInput) → IsRecordingAfter m recording given → Ran m recording.profile given input ran run took sink.after)
+          → ShowsPartly seeing last run → IsRecorded m profile slot shelf sink audience last (Err (Failed OutOfMemory))
+      show-failed {input = input} {last = last} {run = run} n went partly =
+          let grew = frames-next running n went in
+          let is = runs-next m profile given input run (next-ran running n went).run in
+          recorded m profile slot shelf sink audience last _ (
+            n.all,
+            n.reads,
+            part-of-record sink.before sink.after (given ++ input ∷ []) n.all _ n.is.first grew,
             record {
               inputs = given ++ input ∷ [];
-              first = next.first;
+              first = n.is.first;
               taken = took-all sink.before sink.after (given ++ input ∷ []) grew;
-              shown = inr (runs m profile given, run, seeing, sym (runs-next m profile given input run ran.run), running.shown, partly);
+              shown = inr (runs m profile given, run, seeing, sym is, running.shown, partly);
               whole = tt;
             },
           )
 
-      -- Terminate wasn't written
-      pub close-failed : (failure : Failure) (all : List ℕ) → Reads shelf.first shelf.last slot all
-          → IsWhole (length profile.events) (IsAtEnd shelf.last slot) all given
-          → Cuts failure took sink.after (spelled_frame profile.format Terminate)
-          → HasRun m profile slot shelf sink audience seeing (Err (Failed failure))
-      close-failed Read all reads whole cut = absurd cut
-      close-failed Write all reads whole cut =
-          let first = all-first all given whole.blocks in
-          let is = record-is all given Terminated whole.blocks whole.ending ∙ record-ended m profile given in (
+      module _ (end : (all : List ℕ) × Reads shelf.first shelf.last slot all
+          × IsWhole (length profile.events) (IsAtEnd shelf.last slot) all given) where
+        record-whole : record_of m profile end.0 ≡ record_with m profile given false ++ spelled_frame profile.format Terminate
+        record-whole = record-is end.0 given Terminated end.2.blocks end.2.ending ∙ record-ended m profile given
+
+        -- Terminate wasn't written
+        close-cut : (failure : Failure) → Cuts failure took sink.after (spelled_frame profile.format Terminate)
+            → HasRun m profile slot shelf sink audience seeing (Err (Failed failure))
+        close-cut Read cut = absurd cut
+        close-cut Write cut = (
+          end.0,
+          end.1,
+          record {
+            reads_to = tt;
+            answers = λ rest none. at_text (λ text. GrewShort sink.before sink.after (record_of m profile text)) end.0 rest (none end.2.end)
+                (subst (GrewShort sink.before sink.after) (sym record-whole)
+                (grew-then-short sink.before took sink.after _ _ running.grew cut));
+          },
+          all-shown _ end.0 sink.before sink.after audience seeing given end.2.blocks
+              (took-more sink.before took sink.after given cut.0 running.grew cut.2) running.shown,
+        )
+        close-cut OutOfMemory cut = out-of-memory seeing end.0 given end.1 (all-first end.0 given end.2.blocks) (grew-same running.grew cut)
+            running.shown
+
+        pub close-failed : (failure : Failure) → Cuts failure took sink.after (spelled_frame recording.profile.format Terminate)
+            → IsRecorded m profile slot shelf sink audience seeing (Err (Failed failure))
+        close-failed failure cut = recorded m profile slot shelf sink audience seeing _ (close-cut failure
+            (subst (λ (p : ProfileValue). Cuts failure took sink.after (spelled_frame p.format Terminate)) running.same_profile cut))
+
+        -- the record is whole
+        pub closed : (counts : Counts)
+            → ((given : List CycleInput) → IsRecordingAfter m recording given
+            → Counted counts (runs m recording.profile given) (record_with m recording.profile given true))
+            → Grew took sink.after (spelled_frame recording.profile.format Terminate)
+            → IsRecorded m profile slot shelf sink audience seeing (Ok counts)
+        closed counts counted grew =
+            let written = subst (λ (p : ProfileValue). Grew took sink.after (spelled_frame p.format Terminate)) running.same_profile grew in
+            let all_counted = subst (λ (p : ProfileValue). Counted counts (runs m p given) (record_with m p given true)) running.same_profile
+            (counted given running.stands) in
+            let finishes : Finishes m profile end.0 counts sink.before sink.after = record {
+              good = end.2.ending;
+              grew = subst (Grew sink.before sink.after) (sym record-whole) (grew-then running.grew written);
+              counted = rw (record-is end.0 given Terminated end.2.blocks end.2.ending, end.2.blocks) all_counted;
+            } in
+            recorded m profile slot shelf sink audience seeing _ (
+              end.0,
+              end.1,
+              record {
+                reads_to = end.2.end;
+                answers = λ rest none. at_text (λ text. Finishes m profile text counts sink.before sink.after)
+                    end.0 rest (none end.2.end) finishes;
+              },
+              all-shown _ end.0 sink.before sink.after audience seeing given end.2.blocks
+                  (took-more sink.before took sink.after given _ running.grew written) running.shown,
+            )
+
+    module _ {mid : ShelfState} {last : AudienceState} {reader : StimulusReader} {recording : Recording S G E L P} {read : List ℕ}
+        {given : List CycleInput}
+        (running : Running m profile shelf.first mid slot sink.before sink.after audience last reader recording read given)
+        (next : StimulusReader) where
+      -- a bad line, or a failure of the reader
+      stopped-at : (why : Stopped StimulusFault)
+          → (all : List ℕ) × Reads shelf.first shelf.last slot all × InputIs (Err why) next (IsAtEnd shelf.last slot) all given
+          → events_of next ≡ length profile.events → HasRun m profile slot shelf sink audience last (Err why)
+      stopped-at (Refused fault) (all, reads, h) events =
+          let bad : IsBad fault.line (length profile.events) (IsAtEnd shelf.last slot) all given = subst
+          (λ n. IsBad fault.line n (IsAtEnd shelf.last slot) all given) events h in (
             all,
             reads,
-            record {
-              reads_to = tt;
-              answers = λ rest none. at_text (λ text. GrewShort sink.before sink.after (record_of m profile text)) all rest (none whole.end)
-                  (subst (GrewShort sink.before sink.after) (sym is) (grew-then-short sink.before took sink.after _ _ running.grew cut));
-            },
-            shown-given all sink.before sink.after audience seeing given Write tt first
-                (took-more sink.before took sink.after given cut.0 running.grew cut.2) running.shown,
-          )
-      close-failed OutOfMemory all reads whole cut =
-          let first = all-first all given whole.blocks in
-          let grew = grew-same running.grew cut in (
-            all,
-            reads,
-            part-of-record sink.before sink.after given all _ first grew,
-            shown-given all sink.before sink.after audience seeing given OutOfMemory tt first (took-all sink.before sink.after given grew)
+            elim bad.found as (λ _. Ended m profile (Err (Refused fault)) all (IsAtEnd shelf.last slot) sink.before sink.after) [
+              | inl fed ↦ record {
+                reads_to = inl fed;
+                answers = λ rest end. stops-at sink.before sink.after (all ++ rest) given fault.line
+                    (ap (λ (r : Reading). inputs_of r.items) (bad_stays (length profile.events) all rest fed) ∙ bad.blocks)
+                    (ap ending_of (bad_stays (length profile.events) all rest fed) ∙ bad.ending) running.grew;
+              }
+              | inr end ↦ record {
+                reads_to = inr end;
+                answers = λ rest none. at_text (λ text. Stops m profile text fault.line sink.before sink.after) all rest (none end)
+                    (stops-at sink.before sink.after all given fault.line bad.blocks bad.ending running.grew);
+              }
+            ],
+            all-shown _ all sink.before sink.after audience last given bad.blocks (took-all sink.before sink.after given running.grew)
                 running.shown,
           )
-
-      -- the record is whole
-      pub closed : (counts : Counts) (all : List ℕ) → Reads shelf.first shelf.last slot all
-          → IsWhole (length profile.events) (IsAtEnd shelf.last slot) all given
-          → Counted counts (runs m profile given) (record_with m profile given true)
-          → Grew took sink.after (spelled_frame profile.format Terminate)
-          → HasRun m profile slot shelf sink audience seeing (Ok counts)
-      closed counts all reads whole counted grew =
-          let is = record-is all given Terminated whole.blocks whole.ending in
-          let finishes : Finishes m profile all counts sink.before sink.after = record {
-            good = whole.ending;
-            grew = subst (Grew sink.before sink.after) (sym (is ∙ record-ended m profile given)) (grew-then running.grew grew);
-            counted = rw (is, whole.blocks) counted;
-          } in (
+      stopped-at (Failed Read) (all, reads, h) events =
+          let has : HasAll (length profile.events) all given = subst (λ n. HasAll n all given) events h.1 in (
             all,
             reads,
             record {
-              reads_to = whole.end;
-              answers = λ rest none. at_text (λ text. Finishes m profile text counts sink.before sink.after)
-                  all rest (none whole.end) finishes;
+              reads_to = (has.good, subst (λ xs. Grew sink.before sink.after (record_with m profile xs false)) (sym has.blocks) running.grew);
+              answers = λ rest end. part-wider sink.before sink.after _ (record_of m profile (all ++ rest))
+                  (part-whole sink.before sink.after _ running.grew)
+                  (record-within given all rest (all-first all given has.blocks));
             },
-            record {
-              inputs = given;
-              first = all-first all given whole.blocks;
-              taken = took-more sink.before took sink.after given _ running.grew grew;
-              shown = inl running.shown;
-              whole = all-shown all audience seeing given whole.blocks running.shown;
-            },
+            all-shown _ all sink.before sink.after audience last given has.blocks (took-all sink.before sink.after given running.grew)
+                running.shown,
           )
+      stopped-at (Failed Write) (all, reads, h) events = absurd h
+      stopped-at (Failed OutOfMemory) (all, reads, h) events =
+          out-of-memory last all given reads (subst (λ n. IsPrefix given (blocks n all)) events h) running.grew running.shown
+
+      pub reading-stopped : (why : Stopped StimulusFault) → Answered (Err why) mid shelf.last reader next → events_of next ≡ events_of reader
+          → IsRecorded m profile slot shelf sink audience last (Err why)
+      reading-stopped why h events = recorded m profile slot shelf sink audience last _
+          (stopped-at why (next-read next (Err why) running h) (events ∙ running.same_events))

@@ -1,5 +1,5 @@
 -- What follows for the text where the shelf knows it.
-use Rattle.std.proofs.Common.{◌≡◌, ℕ, List, [], ◌++◌, refl, sym, ap, subst, ◌∙◌, append-nil, length}
+use Rattle.std.proofs.Common.{◌≡◌, ℕ, List, [], ◌++◌, sym, ap, subst, ◌∙◌, append-nil, length}
 use Rattle.std.specs.Prelude.{Option, Some, None, Result, Ok, Err, IfSome, IfOk, OnOk}
 use Rattle.std.specs.Option.{option_map}
 use Rattle.det_values.specs.Values.{ProfileValue}
@@ -79,11 +79,3 @@ module _ {S G E L P : Type 0} (m : Meaning S G E L P) (profile : ProfileValue) w
         (λ rest none. reports result read rest (IsAtEnd shelf.last slot) sink.before sink.after audience last ended none shown.whole);
     run = (read, reads, ended, shown);
   }
-
-  -- a recording by a profile and from a slot that have other names
-  pub recorded-as : (other : ProfileValue) (from slot : ℕ) (shelf : ShelfRun) (sink : SinkRun) (audience last : AudienceState)
-      (result : Result Counts (Stopped StimulusFault)) → other ≡ profile → from ≡ slot
-      → IsRecorded m other from shelf sink audience last result → IsRecorded m profile slot shelf sink audience last result
-  recorded-as other from slot shelf sink audience last result same at r =
-      subst (λ (p : ProfileValue). IsRecorded m p slot shelf sink audience last result) same
-      (subst (λ (s : ℕ). IsRecorded m other s shelf sink audience last result) at r)

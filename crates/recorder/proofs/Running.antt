@@ -1,7 +1,8 @@
 -- A run on its way: the stimulus read, its blocks run, and their frames written and shown.
 use Rattle.std.proofs.Common.{◌≡◌, ◌≤◌, ◌<◌, ℕ, List, [], ◌∷◌, ◌++◌, length, sym, ap, subst, ◌∙◌, arith, length-append}
+use Rattle.std.specs.List.{All}
 use Rattle.std.specs.Prelude.{false, Option, Some, None, Result, Ok, Err}
-use Rattle.det_values.specs.Values.{ProfileValue}
+use Rattle.det_values.specs.Values.{ProfileValue, SampleValue}
 use Rattle.det_values.specs.declared.frames.CycleInput.{CycleInput}
 use Rattle.det_values.specs.declared.frames.RunFrame.{RunFrame}
 use Rattle.det_values.specs.declared.frames.Frame.TheVariants.{Run}
@@ -28,7 +29,7 @@ use Rattle.recorder.specs.run_writer.Record.{record_with, opening}
 use Rattle.recorder.specs.run_writer.Recording.{Cuts, IsRecordingAfter, Ran}
 use Rattle.recorder.proofs.lemmas.run_writer.Growing.{runs-none, record-opened, record-next}
 use Rattle.stimulus.specs.declared.slot_reader.stimulus_reader.StimulusReader.{StimulusReader}
-use Rattle.stimulus.specs.slot_reader.StandsFor.{StandsFor, InputIs, ReadsIfNeeded, slot_of, events_of}
+use Rattle.stimulus.specs.slot_reader.StandsFor.{StandsFor, InputIs, ReadsIfNeeded, IsNext, IsWhole, slot_of, events_of}
 
 -- what the reader returns, for all bytes that it can have read
 abbrev pub Answered : Result (Option CycleInput) (Stopped StimulusFault) → ShelfState → ShelfState → StimulusReader → StimulusReader
@@ -37,10 +38,15 @@ Answered answer mid now old new = (more : List ℕ) × Reads mid now (slot_of ol
     × ((read : List ℕ) (given : List CycleInput) → StandsFor old read given
     → ReadsIfNeeded (events_of old) read given more × InputIs answer new (IsAtEnd now (slot_of old)) (read ++ more) given)
 
-pub answered-as : (answer other : Result (Option CycleInput) (Stopped StimulusFault)) (mid now : ShelfState) (old new : StimulusReader)
-    → answer ≡ other
-    → Answered answer mid now old new → Answered other mid now old new
-answered-as answer other mid now old new is h = subst (λ a. Answered a mid now old new) is h
+-- the next input, and all that was read before it
+pub record HasNext (input : CycleInput) (first now : ShelfState) (slot events : ℕ) (reader : StimulusReader) (given : List CycleInput)
+    : Type 0 where
+  pub all : List ℕ
+  pub reads : Reads first now slot all
+  pub fed : StandsFor reader all (given ++ input ∷ [])
+  pub is : IsNext input events all given
+  pub same_slot : slot_of reader ≡ slot
+  pub same_events : events_of reader ≡ events
 
 module _ {S G E L P : Type 0} (m : Meaning S G E L P) (profile : ProfileValue) where
   -- these bytes were read, and these inputs run
@@ -48,7 +54,10 @@ module _ {S G E L P : Type 0} (m : Meaning S G E L P) (profile : ProfileValue) w
       (reader : StimulusReader) (recording : Recording S G E L P) (read : List ℕ) (given : List CycleInput) : Type 0 where
     pub reads : Reads first now slot read
     pub fed : StandsFor reader read given
+    pub same_slot : slot_of reader ≡ slot
+    pub same_events : events_of reader ≡ length profile.events
     pub stands : IsRecordingAfter m recording given
+    pub same_profile : recording.profile ≡ profile
     pub grew : Grew before took (record_with m profile given false)
     pub shown : Shows audience seeing (runs m profile given)
 
@@ -58,72 +67,100 @@ module _ {S G E L P : Type 0} (m : Meaning S G E L P) (profile : ProfileValue) w
 
   pub running-opened : (shelf : ShelfState) (slot : ℕ) (before took : List ℕ → Type 0) (audience : AudienceState) (reader : StimulusReader)
       (recording : Recording S G E L P)
-      → StandsFor reader [] [] → IsRecordingAfter m recording [] → Grew before took (opening m profile)
+      → StandsFor reader [] [] → slot_of reader ≡ slot → events_of reader ≡ length profile.events
+      → IsRecordingAfter m recording [] → recording.profile ≡ profile → Grew before took (opening m profile)
       → Running shelf shelf slot before took audience audience reader recording [] []
-  running-opened shelf slot before took audience reader recording stands opened grew = record {
+  running-opened shelf slot before took audience reader recording stands at events opened same grew = record {
     reads = reads-none shelf slot;
     fed = stands;
+    same_slot = at;
+    same_events = events;
     stands = opened;
+    same_profile = same;
     grew = subst (Grew before took) (sym (record-opened m profile)) grew;
     shown = subst (Shows audience audience) (sym (runs-none m profile)) (shows-none audience);
   }
-
-  -- the reader's result, for all that was read
-  pub next-read : {first mid now : ShelfState} {slot : ℕ} {before took : List ℕ → Type 0} {audience seeing : AudienceState}
-      {reader : StimulusReader} {recording : Recording S G E L P} {read : List ℕ} {given : List CycleInput}
-      (next : StimulusReader) (answer : Result (Option CycleInput) (Stopped StimulusFault))
-      → Running first mid slot before took audience seeing reader recording read given
-      → Answered answer mid now reader next → slot_of reader ≡ slot
-      → (all : List ℕ) × Reads first now slot all × InputIs answer next (IsAtEnd now slot) all given
-  next-read {mid = mid} {now = now} {read = read} {given = given} next answer running h same = (
-    read ++ h.0,
-    reads-then running.reads (subst (λ s. Reads mid now s h.0) same h.1),
-    subst (λ s. InputIs answer next (IsAtEnd now s) (read ++ h.0) given) same (h.2 read given running.fed).1,
-  )
-
-  -- one input more was run
-  pub frames-next : {first mid : ShelfState} {slot : ℕ} {before took after : List ℕ → Type 0} {audience seeing : AudienceState}
-      {reader : StimulusReader} {recording : Recording S G E L P} {read : List ℕ} {given : List CycleInput} (input : CycleInput)
-      (run : RunFrame)
-      → Running first mid slot before took audience seeing reader recording read given
-      → run ≡ next_run given input → Grew took after (spelled_frame profile.format (Run run))
-      → Grew before after (record_with m profile (given ++ input ∷ []) false)
-  frames-next {before = before} {after = after} {given = given} input run running is grew =
-      subst (Grew before after)
-      (ap (λ r. record_with m profile given false ++ spelled_frame profile.format (Run r)) is ∙ sym (record-next m profile given input))
-      (grew-then running.grew grew)
 
   pub runs-next : (given : List CycleInput) (input : CycleInput) (run : RunFrame) → run ≡ next_run given input → runs m profile given
       ++ run ∷ [] ≡ runs m profile (given ++ input ∷ [])
   runs-next given input run is = ap (λ r. runs m profile given ++ r ∷ []) is ∙ sym (runs-append m profile given input)
 
-  -- and shown
-  pub running-next : {first mid now : ShelfState} {slot : ℕ} {before took after : List ℕ → Type 0} {audience seeing last : AudienceState}
-      {reader : StimulusReader} {recording : Recording S G E L P} {read : List ℕ} {given : List CycleInput} (next : StimulusReader)
-      (ran : Recording S G E L P) (input : CycleInput) (run : RunFrame)
-      → Running first mid slot before took audience seeing reader recording read given
-      → Answered (Ok (Some input)) mid now reader next → slot_of reader ≡ slot
-      → Ran m profile given input ran run took after → Shows seeing last (run ∷ [])
-      → (all : List ℕ) × Running first now slot before after audience last next ran all (given ++ input ∷ [])
-  running-next {audience = audience} {last = last} {given = given} next ran input run running h same one shows =
-      let n = next-read next (Ok (Some input)) running h same in (
-        n.0,
-        record {
-          reads = n.1;
-          fed = n.2.0;
-          stands = one.stands;
-          grew = frames-next input run running one.run one.took;
-          shown = subst (Shows audience last) (runs-next given input run one.run) (shows-then running.shown shows);
-        },
-      )
+module _ {S G E L P : Type 0} {m : Meaning S G E L P} {profile : ProfileValue} {first mid now : ShelfState} {slot : ℕ}
+    {before took : List ℕ → Type 0} {audience seeing : AudienceState} {reader : StimulusReader} {recording : Recording S G E L P}
+    {read : List ℕ} {given : List CycleInput} where
+  -- the reader's result, for all that was read
+  pub next-read : (next : StimulusReader) (answer : Result (Option CycleInput) (Stopped StimulusFault))
+      → Running m profile first mid slot before took audience seeing reader recording read given
+      → Answered answer mid now reader next
+      → (all : List ℕ) × Reads first now slot all × InputIs answer next (IsAtEnd now slot) all given
+  next-read next answer running h = (
+    read ++ h.0,
+    reads-then running.reads (subst (λ s. Reads mid now s h.0) running.same_slot h.1),
+    subst (λ s. InputIs answer next (IsAtEnd now s) (read ++ h.0) given) running.same_slot (h.2 read given running.fed).1,
+  )
 
-  -- fewer than 1,000,000 cycles were run before the next one
-  pub few-cycles : {first mid : ShelfState} {slot : ℕ} {before took : List ℕ → Type 0} {audience seeing : AudienceState}
-      {reader : StimulusReader} {recording : Recording S G E L P} {read : List ℕ} {given : List CycleInput} (input : CycleInput)
-      → Running first mid slot before took audience seeing reader recording read given
-      → length (given ++ input ∷ []) ≤ 1000000 → recording.engine.cycles < 1000000
-  few-cycles {given = given} input running few =
-      let cycles = running.stands.engine.cycles in let one = length-append given (input ∷ []) in omega arith
+  pub next-given : (next : StimulusReader) (item : Option CycleInput) (input : CycleInput)
+      → Running m profile first mid slot before took audience seeing reader recording read given
+      → Answered (Ok item) mid now reader next → item ≡ Some input → slot_of next ≡ slot_of reader → events_of next ≡ events_of reader
+      → HasNext input first now slot (length profile.events) next given
+  next-given next item input running h is at events =
+      let n = next-read next (Ok (Some input)) running (subst (λ x. Answered (Ok x) mid now reader next) is h) in
+      record {
+        all = n.0;
+        reads = n.1;
+        fed = n.2.0;
+        is = subst (λ k. IsNext input k n.0 given) (events ∙ running.same_events) n.2.1;
+        same_slot = at ∙ running.same_slot;
+        same_events = events ∙ running.same_events;
+      }
+
+  -- the reader has no more inputs
+  pub none-given : (next : StimulusReader) (item : Option CycleInput)
+      → Running m profile first mid slot before took audience seeing reader recording read given
+      → Answered (Ok item) mid now reader next → item ≡ None → events_of next ≡ events_of reader
+      → (all : List ℕ) × Reads first now slot all × IsWhole (length profile.events) (IsAtEnd now slot) all given
+  none-given next item running h is events =
+      let n = next-read next (Ok None) running (subst (λ x. Answered (Ok x) mid now reader next) is h) in
+      (n.0, n.1, subst (λ k. IsWhole k (IsAtEnd now slot) n.0 given) (events ∙ running.same_events) n.2.1)
+
+  module _ {next : StimulusReader} {input : CycleInput} (running : Running m profile first mid slot before took audience seeing reader recording
+      read given)
+      (n : HasNext input first now slot (length profile.events) next given) where
+    -- fewer than 1,000,000 cycles were run before the next one
+    pub few-cycles : recording.engine.cycles < 1000000
+    few-cycles =
+        let cycles = running.stands.engine.cycles in
+        let few = n.is.few in let one = length-append given (input ∷ []) in omega arith
+
+    -- the recording knows the events of the input
+    pub next-known : All (λ (s : SampleValue). s.event < length recording.profile.events) input.samples
+    next-known = subst (λ (p : ProfileValue). All (λ (s : SampleValue). s.event < length p.events) input.samples) (sym running.same_profile)
+        n.is.within.known
+
+    module _ {ran : Recording S G E L P} {run : RunFrame} {after : List ℕ → Type 0}
+        (went : (given : List CycleInput) → IsRecordingAfter m recording given → Ran m recording.profile given input ran run took after) where
+      -- its run, by the profile at the start
+      pub next-ran : Ran m profile given input ran run took after
+      next-ran = subst (λ (p : ProfileValue). Ran m p given input ran run took after) running.same_profile (went given running.stands)
+
+      pub frames-next : Grew before after (record_with m profile (given ++ input ∷ []) false)
+      frames-next = subst (Grew before after)
+          (ap (λ r. record_with m profile given false ++ spelled_frame profile.format (Run r)) next-ran.run
+          ∙ sym (record-next m profile given input)) (grew-then running.grew next-ran.took)
+
+      -- and shown
+      pub running-next : {last : AudienceState} → ran.profile ≡ recording.profile → Shows seeing last (run ∷ [])
+          → Running m profile first now slot before after audience last next ran n.all (given ++ input ∷ [])
+      running-next {last = last} same shows = record {
+        reads = n.reads;
+        fed = n.fed;
+        same_slot = n.same_slot;
+        same_events = n.same_events;
+        stands = next-ran.stands;
+        same_profile = same ∙ running.same_profile;
+        grew = frames-next;
+        shown = subst (Shows audience last) (runs-next m profile given input run next-ran.run) (shows-then running.shown shows);
+      }
 
 -- no write failed where the reader stopped
 pub no-write : (why : Stopped StimulusFault) (next : StimulusReader) (at_end : Type 0) (read : List ℕ) (given : List CycleInput)
@@ -135,8 +172,13 @@ no-write (Failed Write) next at_end read given sink h t = absurd h
 no-write (Failed OutOfMemory) next at_end read given sink h t = record { cause = λ e. cc; counted = t.counted }
 
 -- no read failed where a frame wasn't written
-pub no-read : (failure : Failure) (before after : List ℕ → Type 0) (bytes : List ℕ) (shelf : ShelfRun)
-    → Cuts failure before after bytes → ShelfTraffic shelf None → ShelfTraffic shelf (Some failure)
-no-read Read before after bytes shelf h t = absurd h
-no-read Write before after bytes shelf h t = record { cause = λ e. cc; counted = t.counted; stays = t.stays }
-no-read OutOfMemory before after bytes shelf h t = record { cause = λ e. cc; counted = t.counted; stays = t.stays }
+pub no-read : (failure : Failure) (before after : List ℕ → Type 0) (bytes : List ℕ) → Cuts failure before after bytes
+    → Some failure ≡ Some Read → ⊥
+no-read Read before after bytes h e = h
+no-read Write before after bytes h e = cc
+no-read OutOfMemory before after bytes h e = cc
+
+-- two calls read in turn, and no read failed
+pub read-on : {shelf : ShelfRun} {end : Option Failure} (mid : ℕ) → (end ≡ Some Read → ⊥) → shelf.first.faults ≤ mid
+    → mid ≤ shelf.last.faults → shelf.stays → ShelfTraffic shelf end
+read-on mid none le more stays = record { cause = λ e. absurd (none e); counted = omega (arith, le, more); stays = stays }

@@ -1,5 +1,5 @@
-//! Writes the record of a run frame by frame, from whatever gives its inputs: a stimulus, another
-//! record, or another client in a chain.
+//! Writes the record of a run frame by frame (`Recording`), from whatever gives its inputs: a
+//! stimulus, another record, or another client in a chain.
 
 mod counts;
 mod frame_parts;

@@ -4,7 +4,7 @@ ghost use Rattle.det_io.specs.MemShelf.{index_of, rest_of};
 
 use super::MemFile;
 use super::place::FilePlace;
-use crate::copy_front::copy_front;
+use crate::read_memory::read_memory;
 
 // The index of the first file with this name, or None.
 pub(super) fn index_of(files: &[MemFile], name: &str) -> Option<usize>
@@ -15,7 +15,7 @@ pub(super) fn index_of(files: &[MemFile], name: &str) -> Option<usize>
 }
 
 // The bytes from a place to the end of its file; none for a place past the end.
-fn rest_at(files: &[MemFile], place: FilePlace) -> &[u8]
+fn file_rest_at(files: &[MemFile], place: FilePlace) -> &[u8]
     ensures rest { result.now ≡ rest_of files.now place }
     ensures fits { place.at + length result.now < 2 ^ 64 }
 {
@@ -26,10 +26,15 @@ fn rest_at(files: &[MemFile], place: FilePlace) -> &[u8]
 }
 
 // Copies the next bytes at a place, at most `most`, and returns their number.
-pub(super) fn copy_from(files: &[MemFile], place: FilePlace, buf: &mut [u8], most: usize) -> usize
+pub(super) fn copy_file_bytes(
+    files: &[MemFile],
+    place: FilePlace,
+    buf: &mut [u8],
+    most: usize,
+) -> usize
     ensures count { result ≡ min (min (length buf.old) most) (length (rest_of files.now place)) }
     ensures fits { place.at + result < 2 ^ 64 }
     ensures front { take result buf.new ≡ take result (rest_of files.now place) }
 {
-    copy_front(rest_at(files, place), buf, most)
+    read_memory(file_rest_at(files, place), buf, most)
 }

@@ -1,7 +1,7 @@
 //! A sink with held bytes in front of it.
 ghost use Rattle.std.specs.Prelude.{◌<◌, ◌≤◌, vec_len, vec_capacity};
 
-use crate::sink_buffer::held_bytes::{append, pass_on};
+use crate::sink_buffer::held_bytes::{hold_piece, write_held_bytes};
 use crate::sink_buffer::{BUFFER_ROOM, Gather};
 use crate::{Sink, SinkFailed};
 
@@ -47,12 +47,12 @@ impl<K: Sink> Gather for Front<'_, '_, K> {
 
     fn gather(&mut self, piece: &[u8]) -> Result<usize, SinkFailed> {
         if piece.len() < LONG && piece.len() < BUFFER_ROOM - self.held.len() {
-            append(self.held, piece);
+            hold_piece(self.held, piece);
             return Ok(piece.len());
         }
         if self.held.is_empty() {
             return self.sink.write(piece);
         }
-        pass_on(self.sink, self.held, piece)
+        write_held_bytes(self.sink, self.held, piece)
     }
 }

@@ -21,7 +21,7 @@ pub fn buffer_room(alloc: Global) -> Result<Vec<u8>, OutOfMemory>
 }
 
 /// Adds a piece after the held bytes.
-pub(crate) fn append(held: &mut Vec<u8>, piece: &[u8])
+pub(crate) fn hold_piece(held: &mut Vec<u8>, piece: &[u8])
     requires { vec_len held.old + length piece.now ≤ vec_capacity held.old }
     ensures items { held.new.items ≡ held.old.items ++ piece.now }
     ensures room { vec_capacity held.old ≤ vec_capacity held.new }
@@ -33,7 +33,7 @@ pub(crate) fn append(held: &mut Vec<u8>, piece: &[u8])
 }
 
 /// Drops the first `count` held bytes.
-fn drop_front(held: &mut Vec<u8>, count: usize)
+fn drop_held_front(held: &mut Vec<u8>, count: usize)
     requires { count ≤ vec_len held.old }
     ensures items { held.new.items ≡ drop count held.old.items }
     ensures room { vec_capacity held.new ≡ vec_capacity held.old }
@@ -48,7 +48,7 @@ fn drop_front(held: &mut Vec<u8>, count: usize)
 /// Writes the held bytes, and after them as much of the piece as there is room for, in one write.
 /// It returns how many bytes of the piece that was. Bytes that the sink doesn't take stay held. If
 /// the write fails, nothing has changed.
-pub(crate) fn pass_on<K: Sink>(
+pub(crate) fn write_held_bytes<K: Sink>(
     sink: &mut K,
     held: &mut Vec<u8>,
     piece: &[u8],
@@ -69,10 +69,10 @@ pub(crate) fn pass_on<K: Sink>(
 {
     let before = held.len();
     let count = piece.len().min(BUFFER_ROOM - before);
-    append(held, &piece[..count]);
+    hold_piece(held, &piece[..count]);
     match sink.write(held.as_slice()) {
         Ok(written) => {
-            drop_front(held, written);
+            drop_held_front(held, written);
             Ok(count)
         }
         Err(failed) => {

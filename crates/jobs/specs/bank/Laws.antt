@@ -4,7 +4,6 @@ use Rattle.std.proofs.Common.{max, Option, None, Some, Bool, true, false, cond, 
 use Rattle.std.proofs.Common.{subst, arith}
 use Rattle.std.specs.List.{All}
 use Rattle.std.specs.Int.{int_min, int_max}
-use Rattle.std.proofs.lemmas.List.FromFn.{length-map-range_with_len}
 use Rattle.std.proofs.lemmas.Bool.Decides.{nat_tests}
 use Rattle.std.proofs.lemmas.Int.{ints, clamps}
 use Rattle.det_values.specs.Limits.{IsSampleValue}
@@ -12,28 +11,27 @@ use Rattle.job.specs.declared.job_results.Conclusion.{Conclusion}
 use Rattle.job.specs.Meaning.{Preparation, ElementResult}
 use Rattle.job.specs.Laws.{JobLaws, CoversBoth}
 use Rattle.job_shared.specs.Bytes.{u16_bytes, i64_bytes}
+use Rattle.job_shared.specs.Parts.{joined_by, covers_by, IsJoinable}
 use Rattle.job_shared.specs.Samples.{sample_of, IsSample}
-use Rattle.job_shared.proofs.Answered.{ok_same}
+use Rattle.job_shared.proofs.Answered.{ok_has}
 use Rattle.job_shared.proofs.Apart.{u16_bytes-apart, i64_bytes-apart}
-use Rattle.job_shared.proofs.Made.{made_all}
+use Rattle.job_shared.proofs.Covering.{covers_both}
+use Rattle.job_shared.proofs.JoinedParts.{right_unit, parts_assoc, part_few, part_joined}
+use Rattle.job_shared.proofs.Made.{made_few, made_all}
 use Rattle.job_shared.proofs.Windows.{newest_are_samples, sample_ok}
 use Rattle.jobs.specs.declared.bank.bank.Bank.{Bank}
 use Rattle.jobs.specs.declared.bank.channel.Channel.{Channel}
 use Rattle.jobs.specs.declared.bank.summary.Summary.{Summary}
 use Rattle.jobs.specs.declared.bank.bank_job.NoGlobals.{NoGlobals}
 use Rattle.jobs.specs.bank.Meaning.{meaning, first_channel, first_channels, level_after, new_level}
-use Rattle.jobs.specs.bank.Meaning.{worked, summary_of, joined, output}
-use Rattle.jobs.specs.bank.Ranges.{Own, Fit, IsSummaryOf, IsPartOf, Covers}
+use Rattle.jobs.specs.bank.Meaning.{worked, summary_of, both, output}
+use Rattle.jobs.specs.bank.Ranges.{Own, Fit, IsSummaryOf, Covers}
 use Rattle.job_shared.proofs.Moves.{towards_in_range}
 
 level_in_range : (target : Option ℤ) (level : ℤ) (shift : ℕ) → IsSample target →
     IsSampleValue level → IsSampleValue (level_after target level shift)
 level_in_range None level shift t l = l
 level_in_range (Some v) level shift t l = towards_in_range level v shift l t
-
-right_unit : (p : Option Summary) → joined p None ≡ p
-right_unit None = refl
-right_unit (Some s) = refl
 
 sum-assoc : (a b c : ℤ) → (a +ℤ b) +ℤ c ≡ a +ℤ (b +ℤ c)
 sum-assoc a b c = omega (arith, ints)
@@ -44,20 +42,6 @@ min-assoc a b c = omega (arith, ints, clamps)
 max-assoc : (a b c : ℤ) → int_max (int_max a b) c ≡ int_max a (int_max b c)
 max-assoc a b c = omega (arith, ints, clamps)
 
-assoc : (a b c : Option Summary) → joined (joined a b) c ≡ joined a (joined b c)
-assoc None b c = refl
-assoc (Some a) None c = refl
-assoc (Some a) (Some b) None = refl
-assoc (Some a) (Some b) (Some c) = λ i. Some (record {
-  sum = sum-assoc a.sum b.sum c.sum i;
-  least = min-assoc a.least b.least c.least i;
-  greatest = max-assoc a.greatest b.greatest c.greatest i;
-})
-
-part_few : (part : Option Summary) (n : ℕ) → IsPartOf part n → n ≤ 65536
-part_few None n h = h
-part_few (Some s) n h = h.few
-
 range_min : (a b : ℤ) → IsSampleValue a → IsSampleValue b → IsSampleValue (int_min a b)
 range_min a b h k = let w = h.0 in let x = h.1 in let y = k.0 in let z = k.1 in
     (omega (arith, ints, clamps), omega (arith, ints, clamps))
@@ -66,47 +50,42 @@ range_max : (a b : ℤ) → IsSampleValue a → IsSampleValue b → IsSampleValu
 range_max a b h k = let w = h.0 in let x = h.1 in let y = k.0 in let z = k.1 in
     (omega (arith, ints, clamps), omega (arith, ints, clamps))
 
-part_joined : (left right : Option Summary) (a b : ℕ) → IsPartOf left a → IsPartOf right b →
-    a + b ≤ 65536 → IsPartOf (joined left right) (a + b)
-part_joined None None a b h k few = few
-part_joined None (Some r) a b h k few =
-    let low = k.sum_least in let high = k.sum_most in let some = k.some in
-    record {
-      some = omega arith;
-      few = few;
-      sum_least = omega (arith, ints);
-      sum_most = omega (arith, ints);
-      least = k.least;
-      greatest = k.greatest;
-    }
-part_joined (Some l) None a b h k few =
-    let low = h.sum_least in let high = h.sum_most in let some = h.some in
-    record {
-      some = omega arith;
-      few = few;
-      sum_least = omega (arith, ints);
-      sum_most = omega (arith, ints);
-      least = h.least;
-      greatest = h.greatest;
-    }
-part_joined (Some l) (Some r) a b h k few =
-    let low = h.sum_least in let high = h.sum_most in let low2 = k.sum_least in
-    let high2 = k.sum_most in let some = h.some in
-    record {
-      some = omega arith;
-      few = few;
-      sum_least = omega (arith, ints);
-      sum_most = omega (arith, ints);
-      least = range_min l.least r.least h.least k.least;
-      greatest = range_max l.greatest r.greatest h.greatest k.greatest;
-    }
+pub bank_parts : IsJoinable both IsSummaryOf
+bank_parts = record {
+  assoc = λ a b c i. record {
+    sum = sum-assoc a.sum b.sum c.sum i;
+    least = min-assoc a.least b.least c.least i;
+    greatest = max-assoc a.greatest b.greatest c.greatest i;
+  };
+  few = λ s n h. h.few;
+  more = λ s n m more few h.
+      let low = h.sum_least in let high = h.sum_most in let some = h.some in
+      record {
+        some = omega arith;
+        few = few;
+        sum_least = omega (arith, ints);
+        sum_most = omega (arith, ints);
+        least = h.least;
+        greatest = h.greatest;
+      };
+  both = λ l r a b h k few.
+      let low = h.sum_least in let high = h.sum_most in let low2 = k.sum_least in
+      let high2 = k.sum_most in let some = h.some in
+      record {
+        some = omega arith;
+        few = few;
+        sum_least = omega (arith, ints);
+        sum_most = omega (arith, ints);
+        least = range_min l.least r.least h.least k.least;
+        greatest = range_max l.greatest r.greatest h.greatest k.greatest;
+      };
+}
 
-pub parts_joined : (left right whole : Option Summary) → whole ≡ joined left right →
-    CoversBoth IsPartOf left right whole
-parts_joined left right whole e a b n sum few h k =
-    subst (λ (m : ℕ). IsPartOf whole m) (sym sum)
-    (subst (λ (p : Option Summary). IsPartOf p (a + b)) (sym e)
-    (part_joined left right a b h k (omega arith)))
+pub parts_joined : (left right whole : Option Summary) → whole ≡ joined_by both left right →
+    CoversBoth (covers_by IsSummaryOf) left right whole
+parts_joined left right whole =
+    covers_both (covers_by IsSummaryOf) (joined_by both) left right whole
+    (part_joined both IsSummaryOf bank_parts left right)
 
 own_worked : (j : Bank) (plan : List (Option ℤ)) (e : Channel) → Fit j plan → Own j e →
     Own j (worked j plan e).element
@@ -141,11 +120,9 @@ own_first j i = record {
   level = (omega (arith, ints), omega (arith, ints));
 }
 
-pub own_all_first : (j : Bank) → All (Own j) (first_channels j)
-own_all_first j = made_all (Own j) (first_channel j) j.channels (λ k below. own_first j k)
-
-pub few_first : (j : Bank) → length (first_channels j) ≤ 65536
-few_first j = rw (length-map-range_with_len (first_channel j) 0 j.channels) j.few
+pub own_all_first : (j : Bank) (es : List Channel) → es ≡ first_channels j → All (Own j) es
+own_all_first j es e = made_all (Own j) (first_channel j) j.channels es e
+    (λ k below. own_first j k)
 
 length-output : (part : Option Summary) → length (output part) ≤ 1048576
 length-output None = omega arith
@@ -177,27 +154,27 @@ apart false j a b one p q e =
 pub bank_laws : JobLaws meaning Covers Own Fit
 bank_laws = record {
   events_made = λ ps n few. omega arith;
-  assoc = λ j a b c. assoc a b c;
+  assoc = λ j. parts_assoc both IsSummaryOf bank_parts;
   left_unit = λ j p. refl;
-  right_unit = λ j p. right_unit p;
-  covers_few = λ j part n h. part_few part n h;
+  right_unit = λ j. right_unit both;
+  covers_few = λ j. part_few both IsSummaryOf bank_parts;
   covers_unit = λ j. omega arith;
-  covers_run = λ j plan carry pass e key w fit own below carried h. subst
-      (λ (x : ElementResult Channel (Option Summary)). Covers j x.part 1) (ok_same _ _ h)
+  covers_run = λ j plan carry pass e key w fit own below carried h. ok_has
+      (λ (x : ElementResult Channel (Option Summary)). Covers j x.part 1) h
       (one_summary (new_level j plan e) (own_worked j plan e fit own).level);
-  covers_joined = λ j left right a b h k few. part_joined left right a b h k few;
-  own_run = λ j plan carry pass e key w fit own below carried h. subst
-      (λ (x : ElementResult Channel (Option Summary)). Own j x.element) (ok_same _ _ h)
+  covers_joined = λ j. part_joined both IsSummaryOf bank_parts;
+  own_run = λ j plan carry pass e key w fit own below carried h. ok_has
+      (λ (x : ElementResult Channel (Option Summary)). Own j x.element) h
       (own_worked j plan e fit own);
-  own_started = λ j seed. own_all_first j;
-  fit_prepared = λ j globals es windows seed cycle time next p own few ws h. subst
-      (λ (x : Preparation (List (Option ℤ))). Fit j x.plan) (ok_same _ _ h)
+  own_started = λ j seed. own_all_first j (first_channels j) refl;
+  fit_prepared = λ j globals es windows seed cycle time next p own few ws h. ok_has
+      (λ (x : Preparation (List (Option ℤ))). Fit j x.plan) h
       (newest_are_samples j.events windows ws);
   shown_few = λ j e own. length-shown (leb 2 j.events) e;
   shown_apart = λ j a b p q e. apart (leb 2 j.events) j a b refl p q e;
-  output_few = λ j globals plan part d h. subst
-      (λ (x : Conclusion NoGlobals). length x.output ≤ 1048576) (ok_same _ _ h) (length-output part);
-  few_started = λ j seed. few_first j;
+  output_few = λ j globals plan part d h. ok_has
+      (λ (x : Conclusion NoGlobals). length x.output ≤ 1048576) h (length-output part);
+  few_started = λ j seed. made_few (first_channel j) j.channels j.few;
   fit_passes = λ j plan fit. (omega arith, omega arith);
   drawn_few = λ j plan carry pass e key. omega arith;
 }

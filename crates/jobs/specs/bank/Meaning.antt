@@ -8,6 +8,7 @@ use Rattle.std.specs.Int.{int_min, int_max}
 use Rattle.job.specs.Meaning.{Meaning, ElementResult}
 use Rattle.job_shared.specs.Params.{is_param, natural_param, few_events}
 use Rattle.job_shared.proofs.Clamps.{natural_most, events_few}
+use Rattle.job_shared.specs.Parts.{joined_by}
 use Rattle.job_shared.specs.Samples.{all_newest, sample_of}
 use Rattle.job_shared.specs.Bytes.{u16_bytes, i64_bytes}
 use Rattle.job_shared.specs.Filter.{step_towards}
@@ -61,14 +62,13 @@ gives e = record { element = e; part = Some (summary_of e.level) }
 abbrev pub worked : Bank → List (Option ℤ) → Channel → ElementResult Channel (Option Summary)
 worked j plan e = gives (record e { level = new_level j plan e })
 
-abbrev pub joined : Option Summary → Option Summary → Option Summary
-joined None right = right
-joined (Some left) None = Some left
-joined (Some left) (Some right) = Some (record {
+-- the summary of the channels of both
+abbrev pub both : Summary → Summary → Summary
+both left right = record {
   sum = left.sum +ℤ right.sum;
   least = int_min left.least right.least;
   greatest = int_max left.greatest right.greatest;
-})
+}
 
 abbrev pub summary_bytes : Summary → List ℕ
 summary_bytes s = i64_bytes s.sum ++ i64_bytes s.least ++ i64_bytes s.greatest
@@ -93,7 +93,7 @@ meaning = record {
   unit_part = λ j. None;
   worked = λ j plan carry pass e key. Ok (worked j plan e);
   drawn = λ j plan carry pass e key. 0;
-  joined = λ j left right. joined left right;
+  joined = λ j left right. joined_by both left right;
   concluded = λ j globals plan part. Ok (record { globals = record {}; output = output part });
   shown = shown;
 }

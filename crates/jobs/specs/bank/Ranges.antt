@@ -1,6 +1,7 @@
 -- The bank's own channels, its fit plans, and the channels that a part covers.
-use Rattle.std.specs.Prelude.{ℕ, ℤ, pos, neg_ℤ, ◌*◌, ◌<◌, ◌≤◌, ◌≤ℤ◌, List, max, Option, None, Some}
+use Rattle.std.specs.Prelude.{ℕ, ℤ, pos, neg_ℤ, ◌*◌, ◌<◌, ◌≤◌, ◌≤ℤ◌, List, max, Option}
 use Rattle.det_values.specs.Limits.{IsSampleValue}
+use Rattle.job_shared.specs.Parts.{covers_by}
 use Rattle.job_shared.specs.Samples.{AreSamples}
 use Rattle.jobs.specs.declared.bank.bank.Bank.{Bank}
 use Rattle.jobs.specs.declared.bank.channel.Channel.{Channel}
@@ -22,10 +23,5 @@ pub record IsSummaryOf (s : Summary) (n : ℕ) : Type 0 where
   pub least : IsSampleValue s.least
   pub greatest : IsSampleValue s.greatest
 
--- a part may come from n channels
-abbrev pub IsPartOf : Option Summary → ℕ → Type 0
-IsPartOf None n = n ≤ 65536
-IsPartOf (Some s) n = IsSummaryOf s n
-
 abbrev pub Covers : Bank → Option Summary → ℕ → Type 0
-Covers j part n = IsPartOf part n
+Covers j part n = covers_by IsSummaryOf part n

@@ -4,7 +4,6 @@ use Rattle.std.proofs.Common.{List, take, drop, length, Option, None, Some, Resu
 use Rattle.std.proofs.Common.{true, false, cond, refl, ap, sym, subst, arith}
 use Rattle.std.specs.Prelude.{◌≤ℤ◌, unwrap_or, unsigned_abs, nat_eq}
 use Rattle.std.specs.List.{All}
-use Rattle.std.proofs.lemmas.List.FromFn.{length-map-range_with_len}
 use Rattle.std.proofs.lemmas.Bool.Decides.{nat_tests}
 use Rattle.std.proofs.lemmas.Int.{ints, clamps}
 use Rattle.det_values.specs.Limits.{IsSampleValue}
@@ -13,10 +12,13 @@ use Rattle.det_client.specs.element_random.RandomStreams.{word}
 use Rattle.job.specs.declared.job_results.Conclusion.{Conclusion}
 use Rattle.job.specs.Meaning.{Preparation, ElementResult}
 use Rattle.job.specs.Laws.{JobLaws, CoversSome, CoversBoth}
+use Rattle.job_shared.specs.Parts.{joined_by, covers_by, IsJoinable}
 use Rattle.job_shared.specs.Samples.{newest_sample, IsSample}
-use Rattle.job_shared.proofs.Answered.{ok_same}
+use Rattle.job_shared.proofs.Answered.{ok_has}
 use Rattle.job_shared.proofs.Apart.{u32_bytes-apart, i64_bytes-apart}
-use Rattle.job_shared.proofs.Made.{made_all}
+use Rattle.job_shared.proofs.Covering.{covers_both}
+use Rattle.job_shared.proofs.JoinedParts.{right_unit, parts_assoc, part_few, part_joined}
+use Rattle.job_shared.proofs.Made.{made_few, made_all}
 use Rattle.job_shared.proofs.Moves.{towards_in_range}
 use Rattle.job_shared.proofs.Windows.{newest_ok}
 use Rattle.jobs.specs.declared.cloud.cloud.Cloud.{Cloud}
@@ -28,13 +30,9 @@ use Rattle.jobs.specs.declared.cloud.steps.Step.{Step}
 use Rattle.jobs.specs.cloud.Steps.{lands, try_of, landing_from, landing, step_of, words_drawn}
 use Rattle.jobs.specs.cloud.Meaning.{meaning, first_particle, first_particles, target_of, is_held}
 use Rattle.jobs.specs.cloud.Meaning.{seed_of, distance, coordinate_after, particle_after_step, particle_after_pull, after_pass, best_of}
-use Rattle.jobs.specs.cloud.Meaning.{drawn, is_better, better, joined, is_far, one_more, output}
+use Rattle.jobs.specs.cloud.Meaning.{drawn, is_better, better, is_far, one_more, output}
 use Rattle.jobs.specs.cloud.Meaning.{shown}
-use Rattle.jobs.specs.cloud.Ranges.{IsPlace, Own, Fit, IsBestOf, IsPartOf, Covers}
-
-right_unit : (p : Option Best) → joined p None ≡ p
-right_unit None = refl
-right_unit (Some b) = refl
+use Rattle.jobs.specs.cloud.Ranges.{IsPlace, Own, Fit, IsBestOf, Covers}
 
 -- the order of bests
 better_follows : (a b c : Best) → is_better b a ≡ true → is_better c b ≡ true → is_better c a ≡ true
@@ -51,17 +49,6 @@ better_assoc a b c true false ca p q r = rw (p, q) (rw p refl)
 better_assoc a b c false true ca p q r = rw (p, q) refl
 better_assoc a b c false false ca p q r = rw (p, q, worse_follows a b c p q) (rw p refl)
 
-assoc : (a b c : Option Best) → joined (joined a b) c ≡ joined a (joined b c)
-assoc None b c = refl
-assoc (Some a) None c = refl
-assoc (Some a) (Some b) None = refl
-assoc (Some a) (Some b) (Some c) =
-    ap Some (better_assoc a b c (is_better b a) (is_better c b) (is_better c a) refl refl refl)
-
-part_few : (part : Option Best) (n : ℕ) → IsPartOf part n → n ≤ 65536
-part_few None n h = h
-part_few (Some b) n h = h.few
-
 best_of_more : (b : Best) (n m : ℕ) → n ≤ m → m ≤ 65536 → IsBestOf b n → IsBestOf b m
 best_of_more b n m h few best = let some = best.some in
     record { some = omega arith; few = few; near = best.near; place = best.place }
@@ -71,19 +58,20 @@ either : (t : Bool) (l r : Best) (a b : ℕ) → IsBestOf l a → IsBestOf r b �
 either true l r a b h k few = best_of_more r b (a + b) (omega arith) few k
 either false l r a b h k few = best_of_more l a (a + b) (omega arith) few h
 
-part_joined : (left right : Option Best) (a b : ℕ) → IsPartOf left a → IsPartOf right b →
-    a + b ≤ 65536 → IsPartOf (joined left right) (a + b)
-part_joined None None a b h k few = few
-part_joined None (Some r) a b h k few = best_of_more r b (a + b) (omega arith) few k
-part_joined (Some l) None a b h k few = best_of_more l a (a + b) (omega arith) few h
-part_joined (Some l) (Some r) a b h k few = either (is_better r l) l r a b h k few
+pub cloud_parts : IsJoinable better IsBestOf
+cloud_parts = record {
+  assoc = λ a b c.
+      better_assoc a b c (is_better b a) (is_better c b) (is_better c a) refl refl refl;
+  few = λ b n h. h.few;
+  more = best_of_more;
+  both = λ l r a b h k few. either (is_better r l) l r a b h k few;
+}
 
-pub parts_joined : (left right whole : Option Best) → whole ≡ joined left right →
-    CoversBoth IsPartOf left right whole
-parts_joined left right whole e a b n sum few h k =
-    subst (λ (m : ℕ). IsPartOf whole m) (sym sum)
-    (subst (λ (p : Option Best). IsPartOf p (a + b)) (sym e)
-    (part_joined left right a b h k (omega arith)))
+pub parts_joined : (left right whole : Option Best) → whole ≡ joined_by better left right →
+    CoversBoth (covers_by IsBestOf) left right whole
+parts_joined left right whole =
+    covers_both (covers_by IsBestOf) (joined_by better) left right whole
+    (part_joined better IsBestOf cloud_parts left right)
 
 -- places
 pub moved_in_range : (z by : ℤ) → IsSampleValue (coordinate_after z by)
@@ -100,7 +88,7 @@ own_either : (j : Cloud) (t : Bool) (a b : Particle) → Own j a → Own j b →
 own_either j true a b h k = h
 own_either j false a b h k = k
 
-own_pulled : (j : Cloud) (carry : Option Best) (e : Particle) (w n : ℕ) → IsPartOf carry n →
+own_pulled : (j : Cloud) (carry : Option Best) (e : Particle) (w n : ℕ) → covers_by IsBestOf carry n →
     Own j e → Own j (particle_after_pull carry e w)
 own_pulled j None e w n h own = own
 own_pulled j (Some b) e w n h own = own_either j (nat_eq (w % 8) 0) e _ own (record {
@@ -152,11 +140,8 @@ own_first j i h = record {
   };
 }
 
-pub own_all_first : (j : Cloud) → All (Own j) (first_particles j)
-own_all_first j = made_all (Own j) first_particle j.particles (own_first j)
-
-few_first : (j : Cloud) → length (first_particles j) ≤ 65536
-few_first j = rw (length-map-range_with_len first_particle 0 j.particles) j.few
+pub own_all_first : (j : Cloud) (es : List Particle) → es ≡ first_particles j → All (Own j) es
+own_all_first j es e = made_all (Own j) first_particle j.particles es e (own_first j)
 
 or_zero : (o : Option ℤ) → IsSample o → IsSampleValue (unwrap_or o (pos 0))
 or_zero None h = (omega (arith, ints), omega (arith, ints))
@@ -173,7 +158,7 @@ fit_target n ws h = record {
 answered : {T : Type 0} (P : T → Type 0) (t : Bool) (code : ℕ) (x y : T) → P x →
     ◌≡◌ {A = Result T ℕ} (cond t (Err code) (Ok x)) (Ok y) → P y
 answered P true code x y h e = cc
-answered P false code x y h e = subst P (ok_same x y e) h
+answered P false code x y h e = ok_has P e h
 
 length-output : (part : Option Best) (n : ℕ) → length (output part n) ≤ 1048576
 length-output None n = omega arith
@@ -216,20 +201,20 @@ drawn_few j pass k = let few = words_few j.spread k 0 8 in
 pub cloud_laws : JobLaws meaning Covers Own Fit
 cloud_laws = record {
   events_made = λ ps n few. omega arith;
-  assoc = λ j a b c. assoc a b c;
+  assoc = λ j. parts_assoc better IsBestOf cloud_parts;
   left_unit = λ j p. refl;
-  right_unit = λ j p. right_unit p;
-  covers_few = λ j part n h. part_few part n h;
+  right_unit = λ j. right_unit better;
+  covers_few = λ j. part_few better IsBestOf cloud_parts;
   covers_unit = λ j. omega arith;
-  covers_run = λ j plan carry pass e key w fit own below carried h. subst
-      (λ (x : ElementResult Particle (Option Best)). Covers j x.part 1) (ok_same _ _ h)
+  covers_run = λ j plan carry pass e key w fit own below carried h. ok_has
+      (λ (x : ElementResult Particle (Option Best)). Covers j x.part 1) h
       (one_best plan (after_pass j carry pass e key) fit
       (own_after j carry pass e key carried own).place);
-  covers_joined = λ j left right a b h k few. part_joined left right a b h k few;
-  own_run = λ j plan carry pass e key w fit own below carried h. subst
-      (λ (x : ElementResult Particle (Option Best)). Own j x.element) (ok_same _ _ h)
+  covers_joined = λ j. part_joined better IsBestOf cloud_parts;
+  own_run = λ j plan carry pass e key w fit own below carried h. ok_has
+      (λ (x : ElementResult Particle (Option Best)). Own j x.element) h
       (own_after j carry pass e key carried own);
-  own_started = λ j seed. own_all_first j;
+  own_started = λ j seed. own_all_first j (first_particles j) refl;
   fit_prepared = λ j globals es windows seed cycle time next p own few ws h. answered
       (λ (x : Preparation Target). Fit j x.plan) (is_held (newest_sample windows 2)) 1
       (record { plan = target_of windows; seed = seed_of j seed cycle }) p
@@ -243,7 +228,7 @@ cloud_laws = record {
         output = output part (one_more globals);
       }) d (length-output part (one_more globals))
       h;
-  few_started = λ j seed. few_first j;
+  few_started = λ j seed. made_few first_particle j.particles j.few;
   fit_passes = λ j plan fit. (omega arith, omega arith);
   drawn_few = λ j plan carry pass e key. drawn_few j pass key;
 }

@@ -10,6 +10,7 @@ use Rattle.job.specs.declared.job_results.Conclusion.{Conclusion}
 use Rattle.job.specs.Meaning.{Meaning, Preparation, ElementResult}
 use Rattle.job_shared.specs.Params.{is_param, natural_param, few_events}
 use Rattle.job_shared.proofs.Clamps.{natural_least, natural_most, events_few}
+use Rattle.job_shared.specs.Parts.{joined_by}
 use Rattle.job_shared.specs.Samples.{newest_sample}
 use Rattle.job_shared.specs.Bytes.{u32_bytes, u64_bytes, i64_bytes}
 use Rattle.job_shared.specs.Filter.{step_towards}
@@ -122,11 +123,6 @@ is_better best other =
 abbrev pub better : Best → Best → Best
 better left right = if is_better right left then right else left
 
-abbrev pub joined : Option Best → Option Best → Option Best
-joined None right = right
-joined (Some left) None = Some left
-joined (Some left) (Some right) = Some (better left right)
-
 abbrev pub is_far : ℕ → Option Best → Bool
 is_far far None = false
 is_far far (Some best) = nat_lt far best.distance
@@ -166,7 +162,7 @@ meaning = record {
   unit_part = λ j. None;
   worked = λ j plan carry pass e k. Ok (placed plan (after_pass j carry pass e k));
   drawn = λ j plan carry pass e k. drawn j pass k;
-  joined = λ j left right. joined left right;
+  joined = λ j left right. joined_by better left right;
   concluded = λ j globals plan part. concluded j globals part;
   shown = λ j e. shown e;
 }

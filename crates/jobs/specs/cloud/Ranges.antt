@@ -1,6 +1,7 @@
 -- The cloud's own particles, its fit plans, and the particles that a part covers.
-use Rattle.std.specs.Prelude.{ℕ, ℤ, ◌<◌, ◌≤◌, Option, None, Some}
+use Rattle.std.specs.Prelude.{ℕ, ℤ, ◌<◌, ◌≤◌, Option}
 use Rattle.det_values.specs.Limits.{IsSampleValue}
+use Rattle.job_shared.specs.Parts.{covers_by}
 use Rattle.jobs.specs.declared.cloud.cloud.Cloud.{Cloud}
 use Rattle.jobs.specs.declared.cloud.particle.Particle.{Particle}
 use Rattle.jobs.specs.declared.cloud.particle.Target.{Target}
@@ -25,10 +26,5 @@ pub record IsBestOf (b : Best) (n : ℕ) : Type 0 where
   pub near : b.distance ≤ 4000000000000
   pub place : IsPlace b.x b.y
 
--- a part may come from n particles
-abbrev pub IsPartOf : Option Best → ℕ → Type 0
-IsPartOf None n = n ≤ 65536
-IsPartOf (Some b) n = IsBestOf b n
-
 abbrev pub Covers : Cloud → Option Best → ℕ → Type 0
-Covers j part n = IsPartOf part n
+Covers j part n = covers_by IsBestOf part n

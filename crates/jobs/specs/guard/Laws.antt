@@ -5,7 +5,6 @@ use Rattle.std.proofs.Common.{refl, ap, sym, ◌∙◌, subst, append_assoc, len
 use Rattle.std.specs.Prelude.{nat_le}
 use Rattle.std.specs.List.{All, flat_map}
 use Rattle.std.proofs.lemmas.List.{append-nil}
-use Rattle.std.proofs.lemmas.List.FromFn.{length-map-range_with_len}
 use Rattle.std.proofs.lemmas.Bool.Decides.{nat_tests}
 use Rattle.std.proofs.lemmas.Int.{ints}
 use Rattle.job.specs.declared.job_results.Conclusion.{Conclusion}
@@ -13,9 +12,10 @@ use Rattle.job.specs.Meaning.{Preparation, ElementResult}
 use Rattle.job.specs.Laws.{JobLaws, CoversBoth}
 use Rattle.job_shared.specs.Bytes.{u32_bytes}
 use Rattle.job_shared.specs.Samples.{IsSample, AreSamples}
-use Rattle.job_shared.proofs.Answered.{ok_same}
+use Rattle.job_shared.proofs.Answered.{ok_has}
 use Rattle.job_shared.proofs.Apart.{u16_bytes-apart, u32_bytes-apart, i64_bytes-apart}
-use Rattle.job_shared.proofs.Made.{made_all}
+use Rattle.job_shared.proofs.Covering.{covers_both}
+use Rattle.job_shared.proofs.Made.{made_few, made_all}
 use Rattle.job_shared.proofs.Windows.{newest_are_samples, sample_ok}
 use Rattle.jobs.specs.declared.guard.guard.Guard.{Guard}
 use Rattle.jobs.specs.declared.guard.channel.Channel.{Channel}
@@ -32,14 +32,14 @@ chosen : (P : ElementResult Channel (List ℕ) → Type 0) (b c : Bool) (x y w :
     P x → (c ≡ false → P y)
     → ◌≡◌ {A = Result (ElementResult Channel (List ℕ)) ℕ} (cond b (Ok x) (cond c (Err 1) (Ok y))) (Ok w)
     → P w
-chosen P true c x y w px py h = subst P (ok_same x w h) px
+chosen P true c x y w px py h = ok_has P h px
 chosen P false true x y w px py h = cc
-chosen P false false x y w px py h = subst P (ok_same y w h) (py refl)
+chosen P false false x y w px py h = ok_has P h (py refl)
 
 part_judged : (j : Guard) (e : Channel) (r : Option ℤ) (w : ElementResult Channel (List ℕ)) →
     channel_after j e r ≡ Ok w → IsPartOf w.part 1
 part_judged j e None w h =
-    subst (λ (x : ElementResult Channel (List ℕ)). IsPartOf x.part 1) (ok_same _ w h)
+    ok_has (λ (x : ElementResult Channel (List ℕ)). IsPartOf x.part 1) h
     (record { most = omega arith; few = omega arith })
 part_judged j e (Some v) w h =
     chosen (λ x. IsPartOf x.part 1) (contains j.bounds v) (nat_le j.limit (e.streak + 1)) _ _ w
@@ -49,7 +49,7 @@ part_judged j e (Some v) w h =
 own_judged : (j : Guard) (e : Channel) (r : Option ℤ) (w : ElementResult Channel (List ℕ)) → IsSample r →
     Own j e → channel_after j e r ≡ Ok w → Own j w.element
 own_judged j e None w ok own h =
-    subst (λ (x : ElementResult Channel (List ℕ)). Own j x.element) (ok_same _ w h) own
+    ok_has (λ (x : ElementResult Channel (List ℕ)). Own j x.element) h own
 own_judged j e (Some v) w ok own h =
     let positive : 1 ≤ j.limit = j.positive in
     chosen (λ x. Own j x.element) (contains j.bounds v) (nat_le j.limit (e.streak + 1)) _ _ w
@@ -75,11 +75,8 @@ own_first j i h = let positive : 1 ≤ j.limit = j.positive in
       streak = omega arith;
     }
 
-pub own_all_first : (j : Guard) → All (Own j) (first_channels j)
-own_all_first j = made_all (Own j) (first_channel j) j.channels (own_first j)
-
-few_first : (j : Guard) → length (first_channels j) ≤ 65536
-few_first j = rw (length-map-range_with_len (first_channel j) 0 j.channels) j.few
+pub own_all_first : (j : Guard) (es : List Channel) → es ≡ first_channels j → All (Own j) es
+own_all_first j es e = made_all (Own j) (first_channel j) j.channels es e (own_first j)
 
 part_joined : (left right : List ℕ) (a b : ℕ) → IsPartOf left a → IsPartOf right b →
     a + b ≤ 65536 → IsPartOf (joined left right) (a + b)
@@ -88,10 +85,8 @@ part_joined left right a b h k few = let x = h.most in let y = k.most in
 
 pub parts_joined : (left right whole : List ℕ) → whole ≡ joined left right →
     CoversBoth IsPartOf left right whole
-parts_joined left right whole e a b n sum few h k =
-    subst (λ (m : ℕ). IsPartOf whole m) (sym sum)
-    (subst (λ (p : List ℕ). IsPartOf p (a + b)) (sym e)
-    (part_joined left right a b h k (omega arith)))
+parts_joined left right whole =
+    covers_both IsPartOf joined left right whole (part_joined left right)
 
 length-numbers : (ns : List ℕ) → length (flat_map u32_bytes ns) ≡ 4 * length ns
 length-numbers [] = refl
@@ -119,7 +114,7 @@ output_by : (b : Bool) (j : Guard) (g : Total) (plan : Plan) (part : List ℕ) (
 output_by true j g plan part d e h = cc
 output_by false j g plan part d e h =
     let most : j.most ≤ 65536 = j.bounded in
-    subst (λ (x : Conclusion Total). length x.output ≤ 1048576) (ok_same _ d h)
+    ok_has (λ (x : Conclusion Total). length x.output ≤ 1048576) h
     (length-output (total_after g part) part plan.next (grind (arith, nat_tests)))
 
 apart : (j : Guard) (a b : Channel) → Own j a → Own j b → shown a ≡ shown b → a ≡ b
@@ -149,15 +144,15 @@ guard_laws = record {
   covers_joined = λ j left right a b h k few. part_joined left right a b h k few;
   own_run = λ j plan carry pass e key w fit own below carried h. own_judged j e
       (reading plan.samples e) w (reading_ok j plan.samples e fit) own h;
-  own_started = λ j seed. own_all_first j;
-  fit_prepared = λ j globals es windows seed cycle time next p own few ws h. subst
-      (λ (x : Preparation Plan). Fit j x.plan) (ok_same _ _ h)
+  own_started = λ j seed. own_all_first j (first_channels j) refl;
+  fit_prepared = λ j globals es windows seed cycle time next p own few ws h. ok_has
+      (λ (x : Preparation Plan). Fit j x.plan) h
       (newest_are_samples j.events windows ws);
   shown_few = λ j e own. omega arith;
   shown_apart = λ j a b p q e. apart j a b p q e;
   output_few = λ j globals plan part d h. output_by (ltb j.most (length part)) j globals plan part d
       refl h;
-  few_started = λ j seed. few_first j;
+  few_started = λ j seed. made_few (first_channel j) j.channels j.few;
   fit_passes = λ j plan fit. (omega arith, omega arith);
   drawn_few = λ j plan carry pass e key. omega arith;
 }

@@ -1,14 +1,17 @@
 //! The implementation of `Job` for `Bank`.
 
-use crate::bank::channel::{first_channels, level_after, put_channel, put_drawn_channel};
-use crate::bank::summary::{joined, output, summary_of};
+use crate::bank::channel::{channel_bytes, level_after};
+use crate::bank::summary::{output, summary_of};
 use crate::bank::{Bank, Channel, Summary};
 use det_client::Client;
 use det_client::element_random::ElementRandom;
 use det_values::{Bytes, Container, OutOfMemory, Params};
 use job::event_cache::EventCache;
 use job::{BadParam, Conclusion, Job, JobFault, JobStart};
-use job_shared::{NewestSamples, newest_samples, sample_of};
+use job_shared::{
+    NewestSamples, first_elements, join_parts, natural_param, newest_samples, no_more_params,
+    put_drawn_bytes, sample_of,
+};
 use std::alloc::Global;
 
 /// The bank keeps nothing between cycles besides its channels.
@@ -41,7 +44,15 @@ impl Job for Bank {
     ghost laws = { bank_laws };
 
     fn make(params: &Params, events: u16) -> Result<Bank, BadParam> {
-        Bank::from_params(params.as_slice(), events)
+        let params = params.as_slice();
+        let channels = natural_param(params, 0, 1, 65536)?;
+        let shift = natural_param(params, 1, 0, 16)?;
+        no_more_params(params, 2)?;
+        Ok(Bank {
+            channels,
+            shift,
+            events,
+        })
     }
 
     fn start(
@@ -51,7 +62,7 @@ impl Job for Bank {
     ) -> Result<JobStart<NoGlobals, Channel>, OutOfMemory> {
         Ok(JobStart {
             globals: NoGlobals,
-            elements: first_channels(alloc, self)?,
+            elements: first_elements(alloc, self, self.channels)?,
         })
     }
 
@@ -88,7 +99,7 @@ impl Job for Bank {
     ) -> Result<Channel, JobFault> {
         let target = sample_of(plan, u32::from(element.event));
         let level = level_after(target, element.level, self.shift);
-        *part = joined(*part, Some(summary_of(level)));
+        *part = join_parts(*part, Some(summary_of(level)));
         Ok(Channel {
             event: element.event,
             level,
@@ -96,18 +107,20 @@ impl Job for Bank {
     }
 
     #[inline(always)]
+    #[tactic(auto, using(crate::specs::bank::Laws::parts_joined))]
     fn merge(
         &self,
         left: &mut Option<Summary>,
         right: &mut Option<Summary>,
     ) -> Result<(), OutOfMemory> {
-        *left = joined(*left, *right);
+        *left = join_parts(*left, *right);
         Ok(())
     }
 
     #[inline(always)]
     fn put_element(&self, element: &Channel, out: &mut Vec<u8>) -> Result<(), OutOfMemory> {
-        put_channel(self, element, out)
+        let skipped = if self.events >= 2 { 0 } else { 2 };
+        Ok(out.extend_from_slice(&channel_bytes(element)[skipped..])?)
     }
 
     #[inline(always)]
@@ -117,7 +130,12 @@ impl Job for Bank {
         draws: u32,
         out: &mut Vec<u8>,
     ) -> Result<(), OutOfMemory> {
-        put_drawn_channel(self, element, draws, out)
+        let bytes = channel_bytes(element);
+        if self.events >= 2 {
+            put_drawn_bytes(&bytes, draws, out)
+        } else {
+            put_drawn_bytes(&bytes[2..], draws, out)
+        }
     }
 
     fn conclude(
@@ -128,10 +146,9 @@ impl Job for Bank {
         part: &Option<Summary>,
         spare: &mut Option<Bytes>,
     ) -> Result<Conclusion<NoGlobals>, JobFault> {
-        let spare = spare.take().unwrap_or(Bytes::new(alloc));
         Ok(Conclusion {
             globals: NoGlobals,
-            output: output(*part, spare)?,
+            output: output(*part, alloc, spare)?,
         })
     }
 }

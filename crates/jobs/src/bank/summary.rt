@@ -1,13 +1,13 @@
 //! The bank's parts: the sum, the least and the greatest of levels, and the output made of them.
 
-ghost use Rattle.std.specs.Prelude.{◌≡◌, IfOk, Some};
+ghost use Rattle.std.specs.Prelude.{◌≡◌, IfOk};
 ghost use Rattle.det_values.specs.Limits.{IsSampleValue};
-ghost use Rattle.job.specs.Laws.{CoverTogether, CoversBoth};
-ghost use Rattle.jobs.specs.bank.Meaning.{summary_of, joined, output};
-ghost use Rattle.jobs.specs.bank.Ranges.{IsSummaryOf, IsPartOf};
+ghost use Rattle.jobs.specs.bank.Meaning.{summary_of, output};
+ghost use Rattle.jobs.specs.bank.Ranges.{IsSummaryOf};
 
 use det_values::{Bytes, OutOfMemory};
-use job_shared::empty_output;
+use job_shared::{Joinable, empty_output};
+use std::alloc::Global;
 
 /// The sum, the least and the greatest of the levels of some channels.
 #[derive(Clone, Copy, Debug, PartialEq, Eq, Drop)]
@@ -31,41 +31,34 @@ pub(crate) fn summary_of(level: i64) -> Summary
     }
 }
 
-/// The summary of the channels of both.
-#[inline(always)]
-fn join_summaries(left: Summary, right: Summary) -> Summary
-    requires { CoverTogether IsSummaryOf left right }
-    ensures { Some result ≡ joined (Some left) (Some right) }
-{
-    Summary {
-        sum: left.sum + right.sum,
-        least: left.least.min(right.least),
-        greatest: left.greatest.max(right.greatest),
-    }
-}
+impl Joinable for Summary {
+    ghost use Rattle.jobs.specs.bank.Meaning.{both};
+    ghost use Rattle.jobs.specs.bank.Ranges.{IsSummaryOf};
 
-/// The same for parts, which may be of no channel.
-#[inline(always)]
-pub(crate) fn joined(left: Option<Summary>, right: Option<Summary>) -> Option<Summary>
-    requires { CoverTogether IsPartOf left right }
-    ensures joined { result ≡ joined left right }
-    ensures covers { CoversBoth IsPartOf left right result }
-{
-    match left {
-        None => right,
-        Some(first) => match right {
-            None => Some(first),
-            Some(second) => Some(join_summaries(first, second)),
-        },
+    ghost both = { both };
+
+    ghost IsOf = { IsSummaryOf };
+
+    #[inline(always)]
+    fn join(self, right: Summary) -> Summary {
+        Summary {
+            sum: self.sum + right.sum,
+            least: self.least.min(right.least),
+            greatest: self.greatest.max(right.greatest),
+        }
     }
 }
 
 /// The sum, the least and the greatest level, in 24 bytes. All three are 0 if there is no channel.
-pub(crate) fn output(part: Option<Summary>, spare: Bytes) -> Result<Bytes, OutOfMemory>
+pub(crate) fn output(
+    part: Option<Summary>,
+    alloc: Global,
+    spare: &mut Option<Bytes>,
+) -> Result<Bytes, OutOfMemory>
     ensures { IfOk result (λ bytes. bytes ≡ output part) }
 {
     let all = part.unwrap_or(summary_of(0));
-    let mut bytes = empty_output(spare, 24)?;
+    let mut bytes = empty_output(alloc, spare, 24)?;
     bytes.extend_from_slice(&all.sum.to_be_bytes())?;
     bytes.extend_from_slice(&all.least.to_be_bytes())?;
     bytes.extend_from_slice(&all.greatest.to_be_bytes())?;

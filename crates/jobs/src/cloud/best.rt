@@ -1,14 +1,14 @@
 //! The cloud's parts: the particle nearest to the target, and the output made of it.
 
 ghost use Rattle.std.specs.Prelude.{◌≡◌, IfOk};
-ghost use Rattle.job.specs.Laws.{CoverTogether, CoversBoth};
-ghost use Rattle.jobs.specs.cloud.Meaning.{best_of, is_better, joined, is_far, output};
-ghost use Rattle.jobs.specs.cloud.Ranges.{IsPlace, IsBestOf, IsPartOf};
+ghost use Rattle.jobs.specs.cloud.Meaning.{best_of, is_better, is_far, output};
+ghost use Rattle.jobs.specs.cloud.Ranges.{IsPlace, IsBestOf};
 
 use crate::cloud::particle::distance;
 use crate::cloud::{Particle, Target};
 use det_values::{Bytes, OutOfMemory};
-use job_shared::empty_output;
+use job_shared::{Joinable, empty_output};
+use std::alloc::Global;
 
 /// The best particle: its distance from the target, its number, and its coordinates.
 #[derive(Clone, Copy, Debug, PartialEq, Eq, Drop)]
@@ -44,23 +44,18 @@ fn is_better(best: Best, other: Best) -> bool
         || (best.distance == other.distance && best.number < other.number)
 }
 
-/// The better of two parts; the left one if neither is better.
-#[inline(always)]
-pub(crate) fn joined(left: Option<Best>, right: Option<Best>) -> Option<Best>
-    requires { CoverTogether IsPartOf left right }
-    ensures joined { result ≡ joined left right }
-    ensures covers { CoversBoth IsPartOf left right result }
-{
-    match left {
-        None => right,
-        Some(first) => match right {
-            None => Some(first),
-            Some(second) => Some(if is_better(second, first) {
-                second
-            } else {
-                first
-            }),
-        },
+impl Joinable for Best {
+    ghost use Rattle.jobs.specs.cloud.Meaning.{better};
+    ghost use Rattle.jobs.specs.cloud.Ranges.{IsBestOf};
+
+    ghost both = { better };
+
+    ghost IsOf = { IsBestOf };
+
+    /// The better one; the left one if neither is better.
+    #[inline(always)]
+    fn join(self, right: Best) -> Best {
+        if is_better(right, self) { right } else { self }
     }
 }
 
@@ -76,7 +71,12 @@ pub(crate) fn is_far(far: u64, part: Option<Best>) -> bool
 
 /// The best particle's number, coordinates and distance, and the number of finished cycles, in 32
 /// bytes. Without a particle the first four are 0.
-pub(crate) fn output(part: Option<Best>, finished: u32, spare: Bytes) -> Result<Bytes, OutOfMemory>
+pub(crate) fn output(
+    part: Option<Best>,
+    finished: u32,
+    alloc: Global,
+    spare: &mut Option<Bytes>,
+) -> Result<Bytes, OutOfMemory>
     ensures { IfOk result (λ bytes. bytes ≡ output part finished) }
 {
     let best = match part {
@@ -88,7 +88,7 @@ pub(crate) fn output(part: Option<Best>, finished: u32, spare: Bytes) -> Result<
             y: 0,
         },
     };
-    let mut bytes = empty_output(spare, 32)?;
+    let mut bytes = empty_output(alloc, spare, 32)?;
     bytes.extend_from_slice(&best.number.to_be_bytes())?;
     bytes.extend_from_slice(&best.x.to_be_bytes())?;
     bytes.extend_from_slice(&best.y.to_be_bytes())?;

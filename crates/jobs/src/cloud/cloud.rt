@@ -1,9 +1,6 @@
 //! The type `Cloud`: the parameters of a particle cloud.
 
-ghost use Rattle.std.specs.Prelude.{◌≡◌, ◌≤◌, MatchResult, None, Some};
-
-use job::BadParam;
-use job_shared::{natural_param, no_more_params, wide_param};
+ghost use Rattle.std.specs.Prelude.{◌≡◌, ◌≤◌};
 
 /// A cloud of particles, by its parameters.
 #[derive(Debug, Drop)]
@@ -20,28 +17,7 @@ pub struct Cloud {
 }
 
 impl Cloud {
-    ghost use Rattle.jobs.specs.cloud.Meaning.{bad_param, made, reseeds};
-
-    /// The cloud with these parameters: particles, 1 to 65,536, spread, 1 to 1,000,000, reseed, 0
-    /// to 1,000,000, and far, 0 to 4,000,000,000,000.
-    pub(crate) fn from_params(params: &[i64], events: u16) -> Result<Cloud, BadParam>
-        ensures { MatchResult result
-            (λ job. (bad_param params.now events ≡ None) × (job ≡ made params.now events))
-            (λ bad. bad_param params.now events ≡ Some bad.index) }
-    {
-        let particles = natural_param(params, 0, 1, 65536)?;
-        let spread = natural_param(params, 1, 1, 1_000_000)?;
-        let reseed = natural_param(params, 2, 0, 1_000_000)?;
-        let far = wide_param(params, 3, 0, 4_000_000_000_000)?;
-        no_more_params(params, 4)?;
-        Ok(Cloud {
-            particles,
-            spread,
-            reseed,
-            far,
-            events,
-        })
-    }
+    ghost use Rattle.jobs.specs.cloud.Meaning.{reseeds};
 
     /// Whether the job draws a new seed in this cycle.
     pub(crate) fn reseeds(&self, cycle: u32) -> bool

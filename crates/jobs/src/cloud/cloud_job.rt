@@ -9,10 +9,11 @@ ghost use Rattle.job.specs.Laws.{CoversSome};
 ghost use Rattle.jobs.specs.cloud.Meaning.{is_held, target_of, seed_of, particle_after_step};
 ghost use Rattle.jobs.specs.cloud.Meaning.{particle_after_pull};
 ghost use Rattle.jobs.specs.cloud.Steps.{landing, step_of, words_drawn};
-ghost use Rattle.jobs.specs.cloud.Ranges.{IsPlace, Own, IsPartOf};
+ghost use Rattle.job_shared.specs.Parts.{covers_by};
+ghost use Rattle.jobs.specs.cloud.Ranges.{IsPlace, Own, IsBestOf};
 
-use crate::cloud::best::{best_of, is_far, joined, output};
-use crate::cloud::particle::{coordinate_after, first_particles, put_drawn_particle, put_particle};
+use crate::cloud::best::{best_of, is_far, output};
+use crate::cloud::particle::{coordinate_after, particle_bytes};
 use crate::cloud::steps::random_step;
 use crate::cloud::{Best, Cloud, Particle, Target};
 use det_client::Client;
@@ -20,7 +21,10 @@ use det_client::element_random::ElementRandom;
 use det_values::{Bytes, Container, OutOfMemory, Params};
 use job::event_cache::EventCache;
 use job::{BadParam, Conclusion, Job, JobFault, JobStart};
-use job_shared::{newest_sample, step_towards};
+use job_shared::{
+    first_elements, join_parts, natural_param, newest_sample, no_more_params, put_drawn_bytes,
+    step_towards, wide_param,
+};
 use std::alloc::Global;
 
 /// The number of finished cycles. It saturates at `u32::MAX`.
@@ -51,7 +55,7 @@ fn target_of(cache: &EventCache) -> Target
 }
 
 /// Draws a new seed in the cycles that need one.
-fn reseed(cloud: &Cloud, client: &mut Client)
+fn draw_new_seed(cloud: &Cloud, client: &mut Client)
     requires { OwnAt client.old 0 }
     ensures seed { client.new.seed ≡ seed_of cloud.now client.old.seed client.old.cycle }
     ensures same { SameButSeed client.old client.new }
@@ -90,7 +94,7 @@ fn particle_after_pull(
     random: &mut ElementRandom,
 ) -> Particle
     requires own { Own cloud.now particle.now }
-    requires carry { CoversSome IsPartOf carry }
+    requires carry { CoversSome (covers_by IsBestOf) carry }
     ensures particle { (key : ℕ) → StandsFor random.old key 0
         → result ≡ particle_after_pull carry particle.now (word key 0) }
     ensures draws { (key : ℕ) → StandsFor random.old key 0 → random.new.draws ≡ 1 }
@@ -138,7 +142,19 @@ impl Job for Cloud {
     ghost laws = { cloud_laws };
 
     fn make(params: &Params, events: u16) -> Result<Cloud, BadParam> {
-        Cloud::from_params(params.as_slice(), events)
+        let params = params.as_slice();
+        let particles = natural_param(params, 0, 1, 65536)?;
+        let spread = natural_param(params, 1, 1, 1_000_000)?;
+        let reseed = natural_param(params, 2, 0, 1_000_000)?;
+        let far = wide_param(params, 3, 0, 4_000_000_000_000)?;
+        no_more_params(params, 4)?;
+        Ok(Cloud {
+            particles,
+            spread,
+            reseed,
+            far,
+            events,
+        })
     }
 
     fn start(
@@ -148,7 +164,7 @@ impl Job for Cloud {
     ) -> Result<JobStart<Finished, Particle>, OutOfMemory> {
         Ok(JobStart {
             globals: Finished { cycles: 0 },
-            elements: first_particles(alloc, self)?,
+            elements: first_elements(alloc, self, self.particles)?,
         })
     }
 
@@ -164,7 +180,7 @@ impl Job for Cloud {
         if is_held(cache) {
             return Err(JobFault::Code(1));
         }
-        reseed(self, client);
+        draw_new_seed(self, client);
         Ok(target_of(cache))
     }
 
@@ -192,19 +208,20 @@ impl Job for Cloud {
         } else {
             particle_after_pull(self, *carry, element, random)
         };
-        *part = joined(*part, Some(best_of(*plan, particle)));
+        *part = join_parts(*part, Some(best_of(*plan, particle)));
         Ok(particle)
     }
 
     #[inline(always)]
+    #[tactic(auto, using(crate::specs::cloud::Laws::parts_joined))]
     fn merge(&self, left: &mut Option<Best>, right: &mut Option<Best>) -> Result<(), OutOfMemory> {
-        *left = joined(*left, *right);
+        *left = join_parts(*left, *right);
         Ok(())
     }
 
     #[inline(always)]
     fn put_element(&self, element: &Particle, out: &mut Vec<u8>) -> Result<(), OutOfMemory> {
-        put_particle(element, out)
+        Ok(out.extend_from_slice(&particle_bytes(element))?)
     }
 
     #[inline(always)]
@@ -214,7 +231,7 @@ impl Job for Cloud {
         draws: u32,
         out: &mut Vec<u8>,
     ) -> Result<(), OutOfMemory> {
-        put_drawn_particle(element, draws, out)
+        put_drawn_bytes(&particle_bytes(element), draws, out)
     }
 
     fn conclude(
@@ -229,10 +246,9 @@ impl Job for Cloud {
             return Err(JobFault::Code(2));
         }
         let cycles = globals.cycles.saturating_add(1);
-        let spare = spare.take().unwrap_or(Bytes::new(alloc));
         Ok(Conclusion {
             globals: Finished { cycles },
-            output: output(*part, cycles, spare)?,
+            output: output(*part, cycles, alloc, spare)?,
         })
     }
 }

@@ -1,17 +1,12 @@
 //! The cloud's elements: particles, their moves and their bytes.
 
-ghost use Rattle.std.specs.Prelude.{◌≡◌, ◌+◌, ◌<◌, ◌≤◌, ◌++◌, IfOk, OnOk, OnErr, length};
-ghost use Rattle.std.specs.Vec.{vec_capacity, vec_len};
-ghost use Rattle.std.specs.List.{All};
+ghost use Rattle.std.specs.Prelude.{◌≡◌, ◌+◌, ◌≤◌};
 ghost use Rattle.det_values.specs.Limits.{IsSampleValue};
-ghost use Rattle.det_values.specs.Spelling.{Grows, an_element, spelled_drawn};
-ghost use Rattle.det_values.specs.Spelling.{spelled_u16, spelled_u32};
-ghost use Rattle.jobs.specs.cloud.Meaning.{first_particles, distance, coordinate_after, shown};
-ghost use Rattle.jobs.specs.cloud.Ranges.{Own, IsPlace};
+ghost use Rattle.jobs.specs.cloud.Meaning.{distance, coordinate_after, shown};
+ghost use Rattle.jobs.specs.cloud.Ranges.{IsPlace};
 
 use crate::cloud::Cloud;
-use det_values::{Container, OutOfMemory};
-use std::alloc::Global;
+use job_shared::FirstElement;
 
 /// A particle: its number, and its coordinates, from -10^12 to 10^12.
 #[derive(Clone, Copy, Debug, PartialEq, Eq, Drop)]
@@ -28,20 +23,14 @@ pub struct Target {
     pub(crate) ty: i64,
 }
 
-/// All particles of a cloud, with both coordinates 0.
-pub(crate) fn first_particles(
-    alloc: Global,
-    cloud: &Cloud,
-) -> Result<Container<Particle>, OutOfMemory>
-    ensures particles { IfOk result (λ particles. particles ≡ first_particles cloud.now) }
-    ensures own { IfOk result (All (Own cloud.now)) }
-    ensures few { IfOk result (λ particles. length particles ≤ 65536) }
-{
-    let mut particles = Container::with_room(alloc, cloud.particles as usize)?;
-    for number in 0..cloud.particles {
-        particles.push(alloc, Particle { number, x: 0, y: 0 })?;
+impl FirstElement<Cloud> for Particle {
+    ghost use Rattle.jobs.specs.cloud.Meaning.{first_particle};
+
+    ghost first = { λ _ number. first_particle number };
+
+    fn first_element(_cloud: &Cloud, number: u32) -> Particle {
+        Particle { number, x: 0, y: 0 }
     }
-    Ok(particles)
 }
 
 /// The distance of a place from the target: the sum along both coordinates.
@@ -66,7 +55,7 @@ pub(crate) fn coordinate_after(coordinate: i64, by: i64) -> i64
 
 /// The number and the coordinates, in 20 bytes.
 #[inline(always)]
-fn bytes_of(particle: &Particle) -> [u8; 20]
+pub(crate) fn particle_bytes(particle: &Particle) -> [u8; 20]
     ensures { result ≡ shown particle.now }
 {
     let mut bytes = [0; 20];
@@ -74,45 +63,4 @@ fn bytes_of(particle: &Particle) -> [u8; 20]
     bytes[4..12].copy_from_slice(&particle.x.to_be_bytes());
     bytes[12..].copy_from_slice(&particle.y.to_be_bytes());
     bytes
-}
-
-/// The same bytes, after their number and before the draws.
-#[inline(always)]
-#[tactic(auto, unfolding(det_values::specs::Spelling::spelled_u16, det_values::specs::Spelling::spelled_u32))]
-fn drawn_bytes(particle: &Particle, draws: u32) -> [u8; 26]
-    ensures { result ≡ spelled_u16 20 ++ (shown particle.now ++ spelled_u32 draws) }
-{
-    let mut bytes = [0; 26];
-    bytes[..2].copy_from_slice(&20u16.to_be_bytes());
-    bytes[2..22].copy_from_slice(&bytes_of(particle));
-    bytes[22..].copy_from_slice(&draws.to_be_bytes());
-    bytes
-}
-
-/// Appends the number and the coordinates.
-#[inline(always)]
-pub(crate) fn put_particle(particle: &Particle, out: &mut Vec<u8>) -> Result<(), OutOfMemory>
-    ensures ok { OnOk result (out.new.items ≡ out.old.items ++ shown particle.now) }
-    ensures grows { Grows out.old.items out.new.items }
-    ensures room { vec_capacity out.old ≤ vec_capacity out.new }
-    ensures full { OnErr result (vec_capacity out.old < vec_len out.old + 64) }
-{
-    out.extend_from_slice(&bytes_of(particle))?;
-    Ok(())
-}
-
-/// Appends the same bytes, after their number and before the draws, by one append.
-#[inline(always)]
-#[tactic(auto, unfolding(det_values::specs::Spelling::spelled_drawn))]
-pub(crate) fn put_drawn_particle(
-    particle: &Particle,
-    draws: u32,
-    out: &mut Vec<u8>,
-) -> Result<(), OutOfMemory>
-    ensures ok { OnOk result (out.new.items ≡ out.old.items
-        ++ spelled_drawn (an_element (shown particle.now) draws)) }
-    ensures room { vec_capacity out.old ≤ vec_capacity out.new }
-    ensures full { OnErr result (vec_capacity out.old < vec_len out.old + 70) }
-{
-    Ok(out.extend_from_slice(&drawn_bytes(particle, draws))?)
 }

@@ -43,7 +43,7 @@ fn lands(spread: u32, step: Step) -> bool
 }
 
 /// A step from the next two random numbers.
-fn try_once(spread: u32, random: &mut ElementRandom) -> Step
+fn try_step(spread: u32, random: &mut ElementRandom) -> Step
     requires { spread ≤ 1000000 }
     ensures step { (key n : ℕ) → StandsFor random.old key n → result ≡ try_of spread key n }
     ensures goes_on { (key n : ℕ) → StandsFor random.old key n → StandsFor random.new key (n + 2) }
@@ -67,7 +67,7 @@ pub(crate) fn random_step(spread: u32, random: &mut ElementRandom) -> Step
     ensures limits { IsStep result }
 {
     for _ in 0..8u32 {
-        let step = try_once(spread, random);
+        let step = try_step(spread, random);
         if lands(spread, step) {
             return step;
         }

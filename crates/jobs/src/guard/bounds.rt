@@ -31,7 +31,7 @@ impl Bounds {
 }
 
 /// Parameter 2, the upper bound: from the lower one to 10^12.
-pub(crate) fn high_param(params: &[i64], low: i64) -> Result<i64, BadParam>
+pub(crate) fn upper_bound_param(params: &[i64], low: i64) -> Result<i64, BadParam>
     requires { low ≡ param params.now 1 }
     ensures ok { let good = is_param params.now 2 (param params.now 1) (pos 1000000000000) in
         IfOk result (λ z. (good ≡ true) × (z ≡ param params.now 2)) }

@@ -1,10 +1,8 @@
 //! The type `Guard`: the parameters of a guard.
 
-ghost use Rattle.std.specs.Prelude.{◌≡◌, ◌≤◌, MatchResult, None, Some};
+ghost use Rattle.std.specs.Prelude.{◌≡◌, ◌≤◌};
 
-use crate::guard::bounds::{Bounds, high_param};
-use job::BadParam;
-use job_shared::{natural_param, no_more_params, whole_param};
+use crate::guard::Bounds;
 
 /// A guard of channels, by its parameters and the number of events.
 #[derive(Debug, Drop)]
@@ -22,29 +20,7 @@ pub struct Guard {
 }
 
 impl Guard {
-    ghost use Rattle.jobs.specs.guard.Meaning.{bad_param, made, event_of};
-
-    /// The guard with these parameters: channels, 1 to 65,536, low, -10^12 to 10^12, high, low to
-    /// 10^12, limit, 1 to 1,000, and most, 0 to 65,536.
-    pub(crate) fn from_params(params: &[i64], events: u16) -> Result<Guard, BadParam>
-        ensures { MatchResult result
-            (λ job. (bad_param params.now events ≡ None) × (job ≡ made params.now events))
-            (λ bad. bad_param params.now events ≡ Some bad.index) }
-    {
-        let channels = natural_param(params, 0, 1, 65536)?;
-        let low = whole_param(params, 1, -1_000_000_000_000, 1_000_000_000_000)?;
-        let high = high_param(params, low)?;
-        let limit = natural_param(params, 3, 1, 1000)?;
-        let most = natural_param(params, 4, 0, 65536)?;
-        no_more_params(params, 5)?;
-        Ok(Guard {
-            channels,
-            bounds: Bounds::new(low, high),
-            limit: limit as u16,
-            most,
-            events,
-        })
-    }
+    ghost use Rattle.jobs.specs.guard.Meaning.{event_of};
 
     /// The event that a channel reads; 0 if there are no events.
     pub(crate) fn event_of(&self, channel: u32) -> u16

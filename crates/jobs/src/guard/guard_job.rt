@@ -1,22 +1,21 @@
 //! The implementation of `Job` for `Guard`.
 
-ghost use Rattle.std.specs.Prelude.{◌≡◌, [], OnOk};
+ghost use Rattle.std.specs.Prelude.{◌≡◌, []};
 ghost use Rattle.det_client.specs.State.{next_time};
-ghost use Rattle.job.specs.Laws.{CoverTogether, CoversBoth};
-ghost use Rattle.jobs.specs.guard.Meaning.{joined};
-ghost use Rattle.jobs.specs.guard.Ranges.{IsPartOf};
 
-use crate::guard::channel::{
-    channel_after, first_channels, put_channel, put_drawn_channel, reading,
-};
+use crate::guard::bounds::upper_bound_param;
+use crate::guard::channel::{channel_after, channel_bytes, reading};
 use crate::guard::report::output;
-use crate::guard::{Channel, Guard};
+use crate::guard::{Bounds, Channel, Guard};
 use det_client::Client;
 use det_client::element_random::ElementRandom;
 use det_values::{Bytes, Container, Limited, OutOfMemory, Params};
 use job::event_cache::EventCache;
 use job::{BadParam, Conclusion, Job, JobFault, JobStart};
-use job_shared::{NewestSamples, newest_samples};
+use job_shared::{
+    NewestSamples, first_elements, natural_param, newest_samples, no_more_params, put_drawn_bytes,
+    whole_param,
+};
 use std::alloc::Global;
 
 /// The number of corrections in all finished cycles. It saturates at `u64::MAX`.
@@ -36,16 +35,6 @@ pub struct Plan {
 /// The numbers of corrected channels, in order.
 pub type Corrections = Limited<u32, 65536>;
 
-/// Adds the corrections of the right neighbour after those of a part.
-#[inline(always)]
-fn join(left: &mut Corrections, right: &Corrections) -> Result<(), OutOfMemory>
-    requires { CoverTogether IsPartOf left.old right.now }
-    ensures joined { OnOk result (left.new ≡ joined left.old right.now) }
-    ensures covers { OnOk result (CoversBoth IsPartOf left.old right.now left.new) }
-{
-    left.extend_from_slice(right.as_slice())
-}
-
 /// An empty list, in the memory of `spare` if there is one.
 fn empty_corrections(alloc: Global, spare: Option<Corrections>) -> Corrections
     ensures { result ≡ [] }
@@ -60,7 +49,7 @@ fn empty_corrections(alloc: Global, spare: Option<Corrections>) -> Corrections
 }
 
 /// The samples of a plan.
-fn samples_of(plan: Plan) -> NewestSamples
+fn plan_samples(plan: Plan) -> NewestSamples
     ensures { result ≡ plan.samples }
 {
     let Plan { samples, next: _ } = plan;
@@ -98,7 +87,20 @@ impl Job for Guard {
     ghost laws = { guard_laws };
 
     fn make(params: &Params, events: u16) -> Result<Guard, BadParam> {
-        Guard::from_params(params.as_slice(), events)
+        let params = params.as_slice();
+        let channels = natural_param(params, 0, 1, 65536)?;
+        let low = whole_param(params, 1, -1_000_000_000_000, 1_000_000_000_000)?;
+        let high = upper_bound_param(params, low)?;
+        let limit = natural_param(params, 3, 1, 1000)?;
+        let most = natural_param(params, 4, 0, 65536)?;
+        no_more_params(params, 5)?;
+        Ok(Guard {
+            channels,
+            bounds: Bounds::new(low, high),
+            limit: limit as u16,
+            most,
+            events,
+        })
     }
 
     fn start(
@@ -108,7 +110,7 @@ impl Job for Guard {
     ) -> Result<JobStart<Total, Channel>, OutOfMemory> {
         Ok(JobStart {
             globals: Total { corrections: 0 },
-            elements: first_channels(alloc, self)?,
+            elements: first_elements(alloc, self, self.channels)?,
         })
     }
 
@@ -122,7 +124,7 @@ impl Job for Guard {
         spare: &mut Option<Plan>,
     ) -> Result<Plan, JobFault> {
         Ok(Plan {
-            samples: newest_samples(alloc, cache, spare.take().map(samples_of))?,
+            samples: newest_samples(alloc, cache, spare.take().map(plan_samples))?,
             next: next_time(client),
         })
     }
@@ -151,13 +153,14 @@ impl Job for Guard {
     }
 
     #[inline(always)]
+    #[tactic(auto, using(crate::specs::guard::Laws::parts_joined))]
     fn merge(&self, left: &mut Corrections, right: &mut Corrections) -> Result<(), OutOfMemory> {
-        join(left, right)
+        left.extend_from_slice(right.as_slice())
     }
 
     #[inline(always)]
     fn put_element(&self, element: &Channel, out: &mut Vec<u8>) -> Result<(), OutOfMemory> {
-        put_channel(element, out)
+        Ok(out.extend_from_slice(&channel_bytes(element))?)
     }
 
     #[inline(always)]
@@ -167,7 +170,7 @@ impl Job for Guard {
         draws: u32,
         out: &mut Vec<u8>,
     ) -> Result<(), OutOfMemory> {
-        put_drawn_channel(element, draws, out)
+        put_drawn_bytes(&channel_bytes(element), draws, out)
     }
 
     fn conclude(
@@ -183,10 +186,9 @@ impl Job for Guard {
             return Err(JobFault::Code(2));
         }
         let corrections = globals.corrections.saturating_add(count as u64);
-        let spare = spare.take().unwrap_or(Bytes::new(alloc));
         Ok(Conclusion {
             globals: Total { corrections },
-            output: output(corrections, part, plan.next, spare)?,
+            output: output(corrections, part, plan.next, alloc, spare)?,
         })
     }
 }

@@ -8,9 +8,10 @@ ghost use Rattle.jobs.specs.guard.Meaning.{next_bytes, output};
 use crate::guard::Corrections;
 use det_values::{Bytes, OutOfMemory};
 use job_shared::empty_output;
+use std::alloc::Global;
 
 /// Appends the bytes of these numbers.
-fn append_numbers(bytes: &mut Bytes, numbers: &[u32]) -> Result<(), OutOfMemory>
+fn append_channel_numbers(bytes: &mut Bytes, numbers: &[u32]) -> Result<(), OutOfMemory>
     requires { length bytes.old + 4 * length numbers.now ≤ 1048576 }
     ensures items { OnOk result (bytes.new ≡ bytes.old ++ flat_map u32_bytes numbers.now) }
     ensures long { OnOk result (length bytes.new ≡ length bytes.old + 4 * length numbers.now) }
@@ -22,7 +23,7 @@ fn append_numbers(bytes: &mut Bytes, numbers: &[u32]) -> Result<(), OutOfMemory>
 }
 
 /// Appends a 1 and the next activation time, or a 0 if it isn't available.
-fn append_next(bytes: &mut Bytes, next: Option<u64>) -> Result<(), OutOfMemory>
+fn append_next_time(bytes: &mut Bytes, next: Option<u64>) -> Result<(), OutOfMemory>
     requires { length bytes.old + 9 ≤ 1048576 }
     ensures { OnOk result (bytes.new ≡ bytes.old ++ next_bytes next) }
 {
@@ -41,14 +42,15 @@ pub(crate) fn output(
     total: u64,
     corrections: &Corrections,
     next: Option<u64>,
-    spare: Bytes,
+    alloc: Global,
+    spare: &mut Option<Bytes>,
 ) -> Result<Bytes, OutOfMemory>
     ensures { IfOk result (λ bytes. bytes ≡ output total corrections.now next) }
 {
-    let mut bytes = empty_output(spare, 21 + 4 * corrections.len())?;
+    let mut bytes = empty_output(alloc, spare, 21 + 4 * corrections.len())?;
     bytes.extend_from_slice(&total.to_be_bytes())?;
     bytes.extend_from_slice(&(corrections.len() as u32).to_be_bytes())?;
-    append_numbers(&mut bytes, corrections.as_slice())?;
-    append_next(&mut bytes, next)?;
+    append_channel_numbers(&mut bytes, corrections.as_slice())?;
+    append_next_time(&mut bytes, next)?;
     Ok(bytes)
 }

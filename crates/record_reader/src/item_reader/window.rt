@@ -55,7 +55,7 @@ impl Window {
         ensures value { result.now ≡ held self.now }
         ensures bytes { AreBytes result.now }
     {
-        part_of(&self.buffer, self.from, self.to)
+        buffer_part(&self.buffer, self.from, self.to)
     }
 
     /// Drops the first bytes.
@@ -124,7 +124,7 @@ impl Window {
         if self.buffer.len() >= len {
             return Ok(());
         }
-        lengthen(&mut self.buffer, len)
+        lengthen_buffer(&mut self.buffer, len)
     }
 
     /// Writes bytes right before the held ones.
@@ -133,7 +133,7 @@ impl Window {
         ensures { held self.new ≡ bytes.now ++ held self.old }
     {
         let from = self.from - bytes.len();
-        write_at(&mut self.buffer, from, bytes);
+        write_buffer_at(&mut self.buffer, from, bytes);
         self.from = from;
     }
 
@@ -148,7 +148,7 @@ impl Window {
             (failure_of result) }
     {
         self.make_room()?;
-        match fill(&mut self.buffer[self.to..self.to + PIECE], slot, shelf) {
+        match read_slot(&mut self.buffer[self.to..self.to + PIECE], slot, shelf) {
             Ok(n) => {
                 self.to += n;
                 Ok(n)
@@ -169,12 +169,12 @@ impl Window {
         if self.from >= self.len() {
             self.move_to(0);
         }
-        self.double()
+        self.double_buffer()
     }
 
     /// Makes room for a piece at the end. If there is none, the buffer becomes at least twice as
     /// long.
-    fn double(&mut self) -> Result<(), OutOfMemory>
+    fn double_buffer(&mut self) -> Result<(), OutOfMemory>
         ensures same { held self.new ≡ held self.old }
         ensures room { OnOk result (self.new.to + 65536 ≤ vec_len self.new.buffer) }
     {
@@ -187,7 +187,7 @@ impl Window {
 }
 
 /// The bytes from offset `from` up to offset `to`.
-fn part_of(bytes: &[u8], from: usize, to: usize) -> &[u8]
+fn buffer_part(bytes: &[u8], from: usize, to: usize) -> &[u8]
     requires order { from ≤ to }
     requires within { to ≤ length bytes.now }
     ensures is { result.now ≡ drop from (take to bytes.now) }
@@ -197,7 +197,7 @@ fn part_of(bytes: &[u8], from: usize, to: usize) -> &[u8]
 }
 
 /// Reads the next bytes of a slot and returns their number.
-fn fill<S: Slots>(buffer: &mut [u8], slot: u32, shelf: &mut S) -> Result<usize, ShelfFailed>
+fn read_slot<S: Slots>(buffer: &mut [u8], slot: u32, shelf: &mut S) -> Result<usize, ShelfFailed>
     requires { slot < (S.sees shelf.old).slots }
     ensures within { IfOk result (λ n. n ≤ length buffer.old) }
     ensures reads { Reads (S.sees shelf.old) (S.sees shelf.new) slot (moved result buffer.new) }
@@ -212,7 +212,7 @@ fn fill<S: Slots>(buffer: &mut [u8], slot: u32, shelf: &mut S) -> Result<usize, 
 }
 
 /// Makes a buffer longer. The new bytes have no meaning.
-fn lengthen(buffer: &mut Vec<u8>, len: usize) -> Result<(), OutOfMemory>
+fn lengthen_buffer(buffer: &mut Vec<u8>, len: usize) -> Result<(), OutOfMemory>
     requires { vec_len buffer.old ≤ len }
     ensures same { take (vec_len buffer.old) buffer.new.items ≡ buffer.old.items }
     ensures longer { vec_len buffer.old ≤ vec_len buffer.new }
@@ -223,7 +223,7 @@ fn lengthen(buffer: &mut Vec<u8>, len: usize) -> Result<(), OutOfMemory>
 }
 
 /// Overwrites the bytes from offset `at` on.
-fn write_at(buffer: &mut Vec<u8>, at: usize, bytes: &[u8])
+fn write_buffer_at(buffer: &mut Vec<u8>, at: usize, bytes: &[u8])
     requires { at + length bytes.now ≤ vec_len buffer.old }
     ensures items { buffer.new.items ≡ take at buffer.old.items
         ++ (bytes.now ++ drop (at + length bytes.now) buffer.old.items) }

@@ -1,18 +1,14 @@
 -- Bytes whose front a sink took, piece after piece, and the bytes it took once the rest is written.
-use Rattle.std.proofs.Common.{◌≡◌, ℕ, List, [], ◌++◌, append_assoc, refl, sym, ap, ◌∙◌}
+use Rattle.std.proofs.Common.{ℕ, List, ◌++◌, append_assoc, sym, ap, ◌∙◌}
 use Rattle.std.specs.Prelude.{Result, Ok, Err, IfOk}
 use Rattle.det_io.specs.Sink.{Grew, GrewShort}
-use Rattle.det_io.proofs.Growth.{grew-none, grew-then, grew-then-short}
+use Rattle.det_io.proofs.Growth.{grew-then, grew-then-short}
 use Rattle.det_io.specs.sink_buffer.Front.{TakesFront}
 
 -- a value with a property has another that follows from it
 pub if-ok-then : {X E : Type 0} (r : Result X E) {P Q : X → Type 0} → ((x : X) → P x → Q x) → IfOk r P → IfOk r Q
 if-ok-then (Ok x) f p = f x p
 if-ok-then (Err e) f p = tt
-
--- at the start nothing was taken, and nothing is held
-pub front-none : (start : List ℕ → Type 0) → TakesFront start start [] []
-front-none start = record { front = []; grew = grew-none start; is = refl }
 
 -- a piece after the held bytes
 pub front-then : (start now after : List ℕ → Type 0) (held bytes piece rest : List ℕ) → TakesFront now after (held ++ piece) rest

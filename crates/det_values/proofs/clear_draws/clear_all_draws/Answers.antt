@@ -6,8 +6,8 @@ use Rattle.det_values.proofs.clear_draws.clear_all_draws.Goals as goal
 pub loop-init : goal.loop-init
 loop-init c = undrawing_begin _ _ c.requires
 
-pub end_of_first-requires : goal.end_of_first-requires
-end_of_first-requires c = undrawing_in _ _ _ _ c.loop.invariant
+pub drawn_element_end-requires : goal.drawn_element_end-requires
+drawn_element_end-requires c = undrawing_in _ _ _ _ c.loop.invariant
 
 pub overflow_sub-end : goal.overflow_sub-end
 overflow_sub-end c = (undrawing_room _ _ _ c.in-Some.ensures.some (undrawing_in _ _ _ _ c.loop.invariant)).0

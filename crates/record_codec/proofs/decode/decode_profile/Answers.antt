@@ -1,5 +1,5 @@
-use Rattle.std.proofs.Common.{sym}
-use Rattle.record_codec.proofs.Made.{header_read, if_made}
+use Rattle.std.proofs.lemmas.Result.{IfOk-weaker}
+use Rattle.record_codec.proofs.Made.{header_read}
 use Rattle.record_codec.proofs.decode.decode_profile.Goals as goal
 
 pub decode_header-requires : goal.decode_header-requires
@@ -7,4 +7,4 @@ decode_header-requires c = (c.requires.0, _, header_read c.args.view c.requires.
 
 pub returns : goal.returns
 returns c =
-    if_made c.decode_header.result (λ made is p h. is p _ (header_read c.args.view p c.args.bytes.now h)) c.decode_header.ensures
+    IfOk-weaker c.decode_header.result _ _ (λ made is p h. is p _ (header_read c.args.view p c.args.bytes.now h)) c.decode_header.ensures

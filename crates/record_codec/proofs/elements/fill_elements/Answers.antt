@@ -1,10 +1,9 @@
-use Rattle.std.proofs.Common.{◌≡◌, ◌<◌, List, ◌++◌, length, sym, ap, subst, ◌∙◌, arith}
-use Rattle.std.specs.List.{All}
+use Rattle.std.proofs.Common.{◌≡◌, ◌<◌, List, ◌++◌, sym, ap, subst, ◌∙◌, arith}
 use Rattle.std.proofs.lemmas.List.Elements.{All-from_get_or}
-use Rattle.det_values.specs.Spelling.{spelled_all, IsDrawn}
+use Rattle.std.proofs.lemmas.Result.{on_ok_weaker}
 use Rattle.det_values.specs.declared.frames.DrawnElement.{DrawnElement}
 use Rattle.record_view.specs.Parts.{ElementsOf}
-use Rattle.record_codec.proofs.Made.{stand_in, on_done}
+use Rattle.record_codec.proofs.Made.{stand_in}
 use Rattle.record_codec.proofs.elements.fill_elements.Goals as goal
 
 pub extend_spelled-requires-clause-spelled : goal.extend_spelled-requires-clause-spelled
@@ -12,22 +11,22 @@ extend_spelled-requires-clause-spelled c =
     let h = c.requires.shows.2 in
     let s = stand_in c.args.format c.args.count c.args.at c.args.output_at c.requires.shows.0 c.args.bytes.now c.requires.shows.1
     c.in-Two.is (All-from_get_or (λ b. b < 256) c.args.bytes.now 0 (λ i l. omega (arith, c.type_inv.bytes i))) h in
-    (h.elements, c.span_of.ensures ∙ s.spelling, s.counted, s.fields)
+    (h.elements, c.element_span.ensures ∙ s.spelling, s.counted, s.fields)
 
 pub returns-in-One : goal.returns-in-One
 returns-in-One c =
-    on_done c.push_all.result
-    (λ (is : c.push_all.new.elements ≡ c.clear.new.self ++ c.elements_in.result) len outcome h.
+    on_ok_weaker c.push_elements.result
+    (λ (is : c.push_elements.new.elements ≡ c.clear.new.self ++ c.view_elements.result) len outcome h.
     subst (λ (es : List DrawnElement). ElementsOf es outcome)
-    (sym (is ∙ ap (λ (xs : List DrawnElement). xs ++ c.elements_in.result) c.clear.ensures))
-    (c.elements_in.ensures.is c.args.output_at len outcome h)) c.push_all.ensures
+    (sym (is ∙ ap (λ (xs : List DrawnElement). xs ++ c.view_elements.result) c.clear.ensures))
+    (c.view_elements.ensures.is c.args.output_at len outcome h)) c.push_elements.ensures
 
 pub returns-in-Two : goal.returns-in-Two
 returns-in-Two c =
-    on_done c.extend_spelled.result
+    on_ok_weaker c.extend_spelled.result
     (λ is len outcome h.
     let s = stand_in c.args.format c.args.count c.args.at c.args.output_at len c.args.bytes.now outcome c.in-Two.is
     (All-from_get_or (λ b. b < 256) c.args.bytes.now 0 (λ i l. omega (arith, c.type_inv.bytes i))) h in
-    let made = is h.elements (c.span_of.ensures ∙ s.spelling) s.counted s.fields in
+    let made = is h.elements (c.element_span.ensures ∙ s.spelling) s.counted s.fields in
     let all = made ∙ ap (λ (xs : List DrawnElement). xs ++ h.elements) c.clear.ensures in
     subst (ElementsOf c.extend_spelled.new.self) (sym h.is) all) c.extend_spelled.ensures.ok

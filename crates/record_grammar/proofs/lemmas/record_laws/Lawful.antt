@@ -47,6 +47,24 @@ lawful_give {A} Fits a fits only = record {
   bad = λ bytes reason left are e. absurd cc;
 }
 
+-- a byte that one reader refuses, refused by another that reads as the first does after some bytes
+refused_as : {A B : Type 0} (r : List ℕ → Read A) (s : List ℕ → Read B) (then : Read A → Read B) (front bytes rest : List ℕ)
+    (reason : Reason) (left : ℕ) → then More ≡ More → ((n : ℕ) → then (Bad reason n) ≡ Bad reason n)
+    → ((xs : List ℕ) → s (front ++ xs) ≡ then (r xs)) → bytes ≡ front ++ rest → IsRefused r rest reason left
+    → IsRefused s bytes reason left
+refused_as r s then front bytes rest reason left more bad reads parts b =
+    record {
+      before = front ++ b.before;
+      byte = b.byte;
+      behind = b.behind;
+      parts = parts ∙ ap (λ (xs : List ℕ). front ++ xs) b.parts ∙ sym (append_assoc front b.before (b.byte ∷ b.behind));
+      counted = b.counted;
+      goes_on = reads b.before ∙ ap then b.goes_on ∙ more;
+      refused = λ other.
+          ap s (append_assoc front b.before (b.byte ∷ other)) ∙ reads (b.before ++ b.byte ∷ other) ∙ ap then (b.refused other)
+          ∙ bad (suc (length other));
+    }
+
 -- the same reader, said in another way
 pub lawful_read : {A : Type 0} (Fits : A → Type 0) (spell : A → List ℕ) (r s : List ℕ → Read A) → ((bytes : List ℕ) → r bytes ≡ s bytes)
     → IsLawful Fits spell s → IsLawful Fits spell r
@@ -55,16 +73,8 @@ lawful_read Fits spell r s same h = record {
   sound = λ bytes x are e. h.sound bytes x are (sym (same bytes) ∙ e);
   more = λ bytes are e. h.more bytes are (sym (same bytes) ∙ e);
   bad = λ bytes reason left are e.
-      let b = h.bad bytes reason left are (sym (same bytes) ∙ e) in
-      record {
-        before = b.before;
-        byte = b.byte;
-        behind = b.behind;
-        parts = b.parts;
-        counted = b.counted;
-        goes_on = same b.before ∙ b.goes_on;
-        refused = λ other. same (b.before ++ b.byte ∷ other) ∙ b.refused other;
-      };
+      refused_as s r (λ q. q) [] bytes bytes reason left refl (λ n. refl) same refl
+      (h.bad bytes reason left are (sym (same bytes) ∙ e));
 }
 
 -- the same values and spellings, said in another way
@@ -103,16 +113,8 @@ lawful_map {A} {C} FitsA spellA r Fits part make there back h = record {
       let k = back m.0 m.2 in
       (make m.0, m.1, k.0, m.3 ∙ ap spellA (sym k.1));
   bad = λ bytes reason left are e.
-      let b = h.bad bytes reason left are (bad_of (r bytes) reason left e) in
-      record {
-        before = b.before;
-        byte = b.byte;
-        behind = b.behind;
-        parts = b.parts;
-        counted = b.counted;
-        goes_on = ap (λ (q : Read A). q >>= λ x. Got (make x.0, x.1)) b.goes_on;
-        refused = λ other. ap (λ (q : Read A). q >>= λ x. Got (make x.0, x.1)) (b.refused other);
-      };
+      refused_as r (λ xs. r xs >>= λ x. Got (make x.0, x.1)) (λ q. q >>= λ x. Got (make x.0, x.1)) [] bytes bytes reason left refl
+      (λ n. refl) (λ xs. refl) refl (h.bad bytes reason left are (bad_of (r bytes) reason left e));
 }
   where
     more_of : (q : Read A) → (q >>= λ x. got (make x.0, x.1)) ≡ More → q ≡ More
@@ -175,31 +177,13 @@ lawful_then {A} {C} FitsA spellA r Fits part spellC f there example h k = record
   bad = λ bytes reason left are e.
       elim (bind_bad (r bytes) (λ y. f y.0 y.1) reason left e) [
         | inl m ↦
-            let b = h.bad bytes reason left are m in
-            record {
-              before = b.before;
-              byte = b.byte;
-              behind = b.behind;
-              parts = b.parts;
-              counted = b.counted;
-              goes_on = ap (λ (q : Read A). q >>= λ x. f x.0 x.1) b.goes_on;
-              refused = λ other. ap (λ (q : Read A). q >>= λ x. f x.0 x.1) (b.refused other);
-            }
+            refused_as r (λ xs. r xs >>= λ x. f x.0 x.1) (λ q. q >>= λ x. f x.0 x.1) [] bytes bytes reason left refl (λ n. refl)
+            (λ xs. refl) refl (h.bad bytes reason left are m)
         | inr g ↦
             let s = h.sound bytes g.0 are g.1 in
-            let b = (k g.0.0 s.0).bad g.0.1 reason left (AreBytes-rest bytes (spellA g.0.0) g.0.1 s.1 are) g.2 in
-            record {
-              before = spellA g.0.0 ++ b.before;
-              byte = b.byte;
-              behind = b.behind;
-              parts =
-                  s.1 ∙ ap (λ (xs : List ℕ). spellA g.0.0 ++ xs) b.parts ∙ sym (append_assoc (spellA g.0.0) b.before (b.byte ∷ b.behind));
-              counted = b.counted;
-              goes_on = ap (λ (q : Read A). q >>= λ x. f x.0 x.1) (h.again g.0.0 b.before s.0) ∙ b.goes_on;
-              refused =
-                  λ other. ap (λ (q : Read A). q >>= λ x. f x.0 x.1) (ap r (append_assoc (spellA g.0.0) b.before (b.byte ∷ other))
-                  ∙ h.again g.0.0 (b.before ++ b.byte ∷ other) s.0) ∙ b.refused other;
-            }
+            refused_as (f g.0.0) (λ xs. r xs >>= λ x. f x.0 x.1) (λ q. q) (spellA g.0.0) bytes g.0.1 reason left refl (λ n. refl)
+            (λ xs. ap (λ (q : Read A). q >>= λ x. f x.0 x.1) (h.again g.0.0 xs s.0)) s.1
+            ((k g.0.0 s.0).bad g.0.1 reason left (AreBytes-rest bytes (spellA g.0.0) g.0.1 s.1 are) g.2)
       ];
 }
 
@@ -268,14 +252,6 @@ lawful_first {A} Fits tag spell f why example fits cases small = record {
                 refused = λ other. n.0 other ∙ ap (λ (r : Reason). bad r (suc (length other))) p.0;
               }
           | inr l ↦
-              let d = l.bad bytes reason left (AreBytes-tail b bytes are) e in
-              record {
-                before = b ∷ d.before;
-                byte = d.byte;
-                behind = d.behind;
-                parts = ap (λ (xs : List ℕ). b ∷ xs) d.parts;
-                counted = d.counted;
-                goes_on = d.goes_on;
-                refused = d.refused;
-              }
+              refused_as (f b) (by_first f) (λ q. q) (b ∷ []) (b ∷ bytes) bytes reason left refl (λ n. refl) (λ xs. refl) refl
+              (l.bad bytes reason left (AreBytes-tail b bytes are) e)
         ]

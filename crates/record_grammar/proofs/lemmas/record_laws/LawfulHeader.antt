@@ -21,6 +21,7 @@ use Rattle.record_grammar.specs.Grammar.{policy_at, event_at, params_at, events_
 use Rattle.record_grammar.specs.Spelling.{spelled_u16, spelled_u64, spelled_signed, version, policy_number, spelled_policy, spelled_event}
 use Rattle.record_grammar.specs.Spelling.{spelled_params, spelled_events, magic, spelled_numbers, spelled_header, IsEvent, IsHeader}
 use Rattle.record_grammar.proofs.Steady.{by_first}
+use Rattle.record_grammar.proofs.SteadyFields.{format_by, format_same, name_byte_by, name_byte_same}
 use Rattle.record_grammar.proofs.lemmas.record_laws.Lawful.{IsLawful, lawful_give, lawful_read, lawful_values, lawful_map, lawful_then}
 use Rattle.record_grammar.proofs.lemmas.record_laws.Lawful.{lawful_first}
 use Rattle.record_grammar.proofs.lemmas.record_laws.HeaderParts.{a_profile, from_events, from_params, from_cycle, from_seed, from_job}
@@ -47,14 +48,6 @@ magic_lawful =
 
 abbrev AnyFormat : Format → Type 0
 AnyFormat format = Unit {0}
-
-abbrev format_by : ℕ → List ℕ → Read Format
-format_by b bytes = cond (eqb b 1) (Got (One, bytes)) (cond (eqb b 2) (Got (Two, bytes)) (Bad Version (suc (length bytes))))
-
-format_reads : (bytes : List ℕ) → format_at bytes ≡ by_first format_by bytes
-unfolding format_at
-format_reads [] = refl
-format_reads (b ∷ bytes) = refl
 
 abbrev FormatCase : ℕ → Type 0
 FormatCase b =
@@ -86,7 +79,7 @@ format_small Two h = lit< tt
 
 format_lawful : IsLawful AnyFormat (λ c. version c ∷ []) format_at
 format_lawful =
-    lawful_read AnyFormat (λ c. version c ∷ []) format_at (by_first format_by) format_reads
+    lawful_read AnyFormat (λ c. version c ∷ []) format_at (by_first format_by) format_same
     (lawful_first AnyFormat version (λ c. []) format_by (λ b. Version) One tt (λ b small. format_case b (eqb b 1) (eqb b 2) refl refl)
     format_small)
 
@@ -106,14 +99,6 @@ version_lawful =
 abbrev IsNameByte : ℕ → Type 0
 IsNameByte b = allowed_in_name b ≡ true
 
-abbrev name_byte_by : ℕ → List ℕ → Read ℕ
-name_byte_by b bytes = cond (allowed_in_name b) (Got (b, bytes)) (Bad Range (suc (length bytes)))
-
-name_byte_reads : (bytes : List ℕ) → name_byte_at bytes ≡ by_first name_byte_by bytes
-unfolding name_byte_at
-name_byte_reads [] = refl
-name_byte_reads (b ∷ bytes) = refl
-
 name_byte_case : (b : ℕ) (t : Bool) → allowed_in_name b ≡ t
     → (((bytes : List ℕ) → name_byte_by b bytes ≡ Bad Range (suc (length bytes))) × ((c : ℕ) → IsNameByte c → c ≡ b → ⊥))
     ⊎ IsLawful (λ c. IsNameByte c × (c ≡ b)) (λ c. []) (name_byte_by b)
@@ -132,7 +117,7 @@ name_byte_small b h = grind (arith, nat_tests, h)
 
 name_byte_lawful : IsLawful IsNameByte (λ b. b ∷ []) name_byte_at
 name_byte_lawful =
-    lawful_read IsNameByte (λ b. b ∷ []) name_byte_at (by_first name_byte_by) name_byte_reads
+    lawful_read IsNameByte (λ b. b ∷ []) name_byte_at (by_first name_byte_by) name_byte_same
     (lawful_first IsNameByte (λ b. b) (λ b. []) name_byte_by (λ b. Range) 97 refl (λ b small. name_byte_case b (allowed_in_name b) refl)
     name_byte_small)
 

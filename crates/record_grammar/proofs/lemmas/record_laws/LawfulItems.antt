@@ -94,10 +94,7 @@ elements_of frames.Terminate = []
 
 init_there : (f : Frame) → IsInit f → AreElements (elements_of f) × (f ≡ frames.Init (elements_of f))
 init_there (frames.Init elements) h = (h, refl)
-init_there frames.Register h = absurd h
-init_there frames.Discover h = absurd h
-init_there (frames.Run r) h = absurd h
-init_there frames.Terminate h = absurd h
+init_there f h = elim h [ ]
 
 no_elements : AreElements []
 no_elements = ((lit≤ tt, lit≤ tt), All-nil IsElement)
@@ -163,10 +160,7 @@ module _ (layout : Layout) (before : ℕ) where
 
   run_there : (c : Frame) → IsRunFrame layout c → before < 1000000 → IsNext c × (tag_of c ≡ 4)
   run_there (frames.Run r) h lt = ((lt, h), refl)
-  run_there frames.Register h lt = absurd h
-  run_there frames.Discover h lt = absurd h
-  run_there (frames.Init elements) h lt = absurd h
-  run_there frames.Terminate h lt = absurd h
+  run_there c h lt = elim h [ ]
 
   run_back : (c : Frame) → IsNext c × (tag_of c ≡ 4) → IsRunFrame layout c × (behind_tag c ≡ spelled_run layout (run_of c))
   run_back (frames.Run r) h = (h.0.1, refl)
@@ -240,9 +234,7 @@ module _ (layout : Layout) (before : ℕ) where
   tag_small : (c : Frame) → IsNext c → tag_of c < 256
   tag_small (frames.Run r) h = lit< tt
   tag_small frames.Terminate h = lit< tt
-  tag_small frames.Register h = absurd h
-  tag_small frames.Discover h = absurd h
-  tag_small (frames.Init elements) h = absurd h
+  tag_small c h = elim h [ ]
 
   runs_lawful : layout.events ≤ 65536 → IsLawful IsNext (λ f. tag_of f ∷ behind_tag f) (frame_at (places.Runs layout before))
   runs_lawful few =
@@ -287,53 +279,36 @@ header_item_lawful =
     there (items.Header p) h = (h, refl)
     there (items.Frame f) h = absurd h
 
+-- the only item that may come in a place is a frame of one byte
+one_frame_lawful : (f : Frame) (tag : ℕ) (place : Place) → ((x : Item) → MayStand place x → x ≡ items.Frame f)
+    → MayStand place (items.Frame f) → item_spelling place (items.Frame f) ≡ tag ∷ []
+    → IsLawful (λ g. g ≡ f) (λ g. tag ∷ []) (frame_at place)
+    → IsLawful (MayStand place) (item_spelling place) (λ bytes. frame_at place bytes >>= λ g. Got (items.Frame g.0, g.1))
+one_frame_lawful f tag place only stands spelling =
+    framed_lawful (λ g. g ≡ f) (λ g. tag ∷ []) place
+    (λ x h. (ap frame_of (only x h), only x h ∙ ap (λ (y : Item). items.Frame (frame_of y)) (sym (only x h))))
+    (λ g h. subst (λ (k : Frame). MayStand place (items.Frame k)) (sym h) stands)
+    (λ x h. ap (item_spelling place) (only x h) ∙ spelling)
+
 register_item_lawful : (layout : Layout)
     → IsLawful (MayStand (places.Register layout)) (item_spelling (places.Register layout))
     (λ bytes. frame_at (places.Register layout) bytes >>= λ f. Got (items.Frame f.0, f.1))
 unfolding spelled_frame
-register_item_lawful layout =
-    framed_lawful (λ g. g ≡ frames.Register) (λ g. 1 ∷ []) (places.Register layout) there
-    (λ f h. subst (λ (g : Frame). MayStand (places.Register layout) (items.Frame g)) (sym h) tt) spelled (register_lawful layout)
+register_item_lawful layout = one_frame_lawful frames.Register 1 (places.Register layout) only tt refl (register_lawful layout)
   where
-    there : (x : Item) → MayStand (places.Register layout) x → (frame_of x ≡ frames.Register) × (x ≡ items.Frame (frame_of x))
-    there (items.Frame frames.Register) h = (refl, refl)
-    there (items.Frame frames.Discover) h = absurd h
-    there (items.Frame (frames.Init elements)) h = absurd h
-    there (items.Frame (frames.Run r)) h = absurd h
-    there (items.Frame frames.Terminate) h = absurd h
-    there (items.Header p) h = absurd h
-
-    spelled : (x : Item) → MayStand (places.Register layout) x → item_spelling (places.Register layout) x ≡ 1 ∷ []
-    spelled (items.Frame frames.Register) h = refl
-    spelled (items.Frame frames.Discover) h = absurd h
-    spelled (items.Frame (frames.Init elements)) h = absurd h
-    spelled (items.Frame (frames.Run r)) h = absurd h
-    spelled (items.Frame frames.Terminate) h = absurd h
-    spelled (items.Header p) h = absurd h
+    only : (x : Item) → MayStand (places.Register layout) x → x ≡ items.Frame frames.Register
+    only (items.Frame frames.Register) h = refl
+    only x h = elim h [ ]
 
 discover_item_lawful : (layout : Layout)
     → IsLawful (MayStand (places.Discover layout)) (item_spelling (places.Discover layout))
     (λ bytes. frame_at (places.Discover layout) bytes >>= λ f. Got (items.Frame f.0, f.1))
 unfolding spelled_frame
-discover_item_lawful layout =
-    framed_lawful (λ g. g ≡ frames.Discover) (λ g. 2 ∷ []) (places.Discover layout) there
-    (λ f h. subst (λ (g : Frame). MayStand (places.Discover layout) (items.Frame g)) (sym h) tt) spelled (discover_lawful layout)
+discover_item_lawful layout = one_frame_lawful frames.Discover 2 (places.Discover layout) only tt refl (discover_lawful layout)
   where
-    there : (x : Item) → MayStand (places.Discover layout) x → (frame_of x ≡ frames.Discover) × (x ≡ items.Frame (frame_of x))
-    there (items.Frame frames.Discover) h = (refl, refl)
-    there (items.Frame frames.Register) h = absurd h
-    there (items.Frame (frames.Init elements)) h = absurd h
-    there (items.Frame (frames.Run r)) h = absurd h
-    there (items.Frame frames.Terminate) h = absurd h
-    there (items.Header p) h = absurd h
-
-    spelled : (x : Item) → MayStand (places.Discover layout) x → item_spelling (places.Discover layout) x ≡ 2 ∷ []
-    spelled (items.Frame frames.Discover) h = refl
-    spelled (items.Frame frames.Register) h = absurd h
-    spelled (items.Frame (frames.Init elements)) h = absurd h
-    spelled (items.Frame (frames.Run r)) h = absurd h
-    spelled (items.Frame frames.Terminate) h = absurd h
-    spelled (items.Header p) h = absurd h
+    only : (x : Item) → MayStand (places.Discover layout) x → x ≡ items.Frame frames.Discover
+    only (items.Frame frames.Discover) h = refl
+    only x h = elim h [ ]
 
 init_item_lawful : (layout : Layout)
     → IsLawful (MayStand (places.Init layout)) (item_spelling (places.Init layout))
@@ -344,27 +319,16 @@ init_item_lawful layout =
   where
     there : (x : Item) → MayStand (places.Init layout) x → IsInit (frame_of x) × (x ≡ items.Frame (frame_of x))
     there (items.Frame (frames.Init elements)) h = (((omega arith, h.0), h.1), refl)
-    there (items.Frame frames.Register) h = absurd h
-    there (items.Frame frames.Discover) h = absurd h
-    there (items.Frame (frames.Run r)) h = absurd h
-    there (items.Frame frames.Terminate) h = absurd h
-    there (items.Header p) h = absurd h
+    there x h = elim h [ ]
 
     back : (f : Frame) → IsInit f → MayStand (places.Init layout) (items.Frame f)
     back (frames.Init elements) h = (h.0.1, h.1)
-    back frames.Register h = absurd h
-    back frames.Discover h = absurd h
-    back (frames.Run r) h = absurd h
-    back frames.Terminate h = absurd h
+    back f h = elim h [ ]
 
     spelled : (x : Item) → MayStand (places.Init layout) x → item_spelling (places.Init layout) x ≡ 3
         ∷ spelled_elements (elements_of (frame_of x))
     spelled (items.Frame (frames.Init elements)) h = refl
-    spelled (items.Frame frames.Register) h = absurd h
-    spelled (items.Frame frames.Discover) h = absurd h
-    spelled (items.Frame (frames.Run r)) h = absurd h
-    spelled (items.Frame frames.Terminate) h = absurd h
-    spelled (items.Header p) h = absurd h
+    spelled x h = elim h [ ]
 
 runs_item_lawful : (layout : Layout) (before : ℕ) → layout.events ≤ 65536
     → IsLawful (MayStand (places.Runs layout before)) (item_spelling (places.Runs layout before))
@@ -377,26 +341,18 @@ runs_item_lawful layout before few =
     there : (x : Item) → MayStand (places.Runs layout before) x → IsNext layout before (frame_of x) × (x ≡ items.Frame (frame_of x))
     there (items.Frame (frames.Run r)) h = (h, refl)
     there (items.Frame frames.Terminate) h = (h, refl)
-    there (items.Frame frames.Register) h = absurd h
-    there (items.Frame frames.Discover) h = absurd h
-    there (items.Frame (frames.Init elements)) h = absurd h
-    there (items.Header p) h = absurd h
+    there x h = elim h [ ]
 
     back : (f : Frame) → IsNext layout before f → MayStand (places.Runs layout before) (items.Frame f)
     back (frames.Run r) h = h
     back frames.Terminate h = h
-    back frames.Register h = absurd h
-    back frames.Discover h = absurd h
-    back (frames.Init elements) h = absurd h
+    back f h = elim h [ ]
 
     spelled : (x : Item) → MayStand (places.Runs layout before) x → item_spelling (places.Runs layout before) x
         ≡ tag_of layout before (frame_of x) ∷ behind_tag layout before (frame_of x)
     spelled (items.Frame (frames.Run r)) h = refl
     spelled (items.Frame frames.Terminate) h = refl
-    spelled (items.Frame frames.Register) h = absurd h
-    spelled (items.Frame frames.Discover) h = absurd h
-    spelled (items.Frame (frames.Init elements)) h = absurd h
-    spelled (items.Header p) h = absurd h
+    spelled x h = elim h [ ]
 
 pub item_lawful : (place : Place) → (place ≡ places.End → ⊥) → EventsFit place
     → IsLawful (MayStand place) (item_spelling place) (item_at place)

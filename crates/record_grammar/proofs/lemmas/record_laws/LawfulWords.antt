@@ -54,43 +54,32 @@ u64_is n =
 abbrev pub IsFrom : ℕ → ℕ → ℕ → Type 0
 IsFrom least most n = (least ≤ n) × (n ≤ most)
 
-pub wide_1 : (most : ℕ) → most ≤ 255 → most ≤ highest 1 0
+-- the greatest numbers of 1, 2, 4 and 8 bytes
+highest_numbers : (highest 1 0 ≡ 255) × (highest 2 0 ≡ 65535) × (highest 4 0 ≡ 4294967295) × (highest 8 0 ≡ 18446744073709551615)
 unfolding highest
-wide_1 most h = h
-
-pub wide_2 : (most : ℕ) → most ≤ 65535 → most ≤ highest 2 0
-unfolding highest
-wide_2 most h = h
-
-pub wide_4 : (most : ℕ) → most ≤ 4294967295 → most ≤ highest 4 0
-unfolding highest
-wide_4 most h = h
-
-pub wide_8 : (most : ℕ) → most ≤ 18446744073709551615 → most ≤ highest 8 0
-unfolding highest
-wide_8 most h = h
+highest_numbers = (refl, refl, refl, refl)
 
 pub byte_lawful : (least most : ℕ) → least ≤ most → most ≤ 255 → IsLawful (IsFrom least most) (λ n. n ∷ []) (number 1 least most)
 byte_lawful least most order small =
     lawful_values (IsFrom least most) (IsFrom least most) (big_endian 1) (λ n. n ∷ []) (number 1 least most) (λ n h. h)
     (λ n h. (h, sym (byte_is n (omega (arith, h.1)))))
-    (number_lawful 1 least most order (wide_1 most small))
+    (number_lawful 1 least most order (omega (arith, small, highest_numbers.0)))
 
 pub u16_lawful : (least most : ℕ) → least ≤ most → most ≤ 65535 → IsLawful (IsFrom least most) spelled_u16 (number 2 least most)
 u16_lawful least most order small =
     lawful_values (IsFrom least most) (IsFrom least most) (big_endian 2) spelled_u16 (number 2 least most) (λ n h. h) (λ n h. (h, u16_is n))
-    (number_lawful 2 least most order (wide_2 most small))
+    (number_lawful 2 least most order (omega (arith, small, highest_numbers.1)))
 
 pub u32_lawful : (least most : ℕ) → least ≤ most → most ≤ 4294967295 → IsLawful (IsFrom least most) spelled_u32 (number 4 least most)
 u32_lawful least most order small =
     lawful_values (IsFrom least most) (IsFrom least most) (big_endian 4) spelled_u32 (number 4 least most) (λ n h. h) (λ n h. (h, u32_is n))
-    (number_lawful 4 least most order (wide_4 most small))
+    (number_lawful 4 least most order (omega (arith, small, highest_numbers.2)))
 
 pub u64_lawful : (least most : ℕ) → least ≤ most → most ≤ 18446744073709551615
     → IsLawful (IsFrom least most) spelled_u64 (number 8 least most)
 u64_lawful least most order small =
     lawful_values (IsFrom least most) (IsFrom least most) (big_endian 8) spelled_u64 (number 8 least most) (λ n h. h) (λ n h. (h, u64_is n))
-    (number_lawful 8 least most order (wide_8 most small))
+    (number_lawful 8 least most order (omega (arith, small, highest_numbers.3)))
 
 -- ---- raw bytes
 

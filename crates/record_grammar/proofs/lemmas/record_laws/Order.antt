@@ -134,36 +134,25 @@ end_last layout before (frames.Run r ∷ fs) few h =
     record { runs = r ∷ i.runs; few = omega (arith, i.few); order = ap (λ (gs : List Frame). frames.Run r ∷ gs) i.order }
 end_last layout before (frames.Terminate ∷ fs) few h =
     record { runs = []; few = omega arith; order = ap (λ (gs : List Frame). frames.Terminate ∷ gs) (nothing_follows fs h.1) }
-end_last layout before (frames.Register ∷ fs) few h = elim h.0 [ ]
-end_last layout before (frames.Discover ∷ fs) few h = elim h.0 [ ]
-end_last layout before (frames.Init elements ∷ fs) few h = elim h.0 [ ]
+end_last layout before (f ∷ fs) few h = elim h.0 [ ]
 
 behind_init : (layout : Layout) (fs : List Frame) → Follow (places.Init layout) fs places.End → (elements : List (List ℕ))
     × (rest : List Frame) × (fs ≡ frames.Init elements ∷ rest) × AreRuns 0 rest
 behind_init layout [] h = absurd cc
 behind_init layout (frames.Init elements ∷ fs) h = (elements, fs, refl, end_last layout 0 fs (omega arith) h.1)
-behind_init layout (frames.Register ∷ fs) h = elim h.0 [ ]
-behind_init layout (frames.Discover ∷ fs) h = elim h.0 [ ]
-behind_init layout (frames.Run r ∷ fs) h = elim h.0 [ ]
-behind_init layout (frames.Terminate ∷ fs) h = elim h.0 [ ]
+behind_init layout (f ∷ fs) h = elim h.0 [ ]
 
 behind_discover : (layout : Layout) (fs : List Frame) → Follow (places.Discover layout) fs places.End → (rest : List Frame)
     × (fs ≡ frames.Discover ∷ rest) × Follow (places.Init layout) rest places.End
 behind_discover layout [] h = absurd cc
 behind_discover layout (frames.Discover ∷ fs) h = (fs, refl, h.1)
-behind_discover layout (frames.Register ∷ fs) h = elim h.0 [ ]
-behind_discover layout (frames.Init elements ∷ fs) h = elim h.0 [ ]
-behind_discover layout (frames.Run r ∷ fs) h = elim h.0 [ ]
-behind_discover layout (frames.Terminate ∷ fs) h = elim h.0 [ ]
+behind_discover layout (f ∷ fs) h = elim h.0 [ ]
 
 behind_register : (layout : Layout) (fs : List Frame) → Follow (places.Register layout) fs places.End → (rest : List Frame)
     × (fs ≡ frames.Register ∷ rest) × Follow (places.Discover layout) rest places.End
 behind_register layout [] h = absurd cc
 behind_register layout (frames.Register ∷ fs) h = (fs, refl, h.1)
-behind_register layout (frames.Discover ∷ fs) h = elim h.0 [ ]
-behind_register layout (frames.Init elements ∷ fs) h = elim h.0 [ ]
-behind_register layout (frames.Run r ∷ fs) h = elim h.0 [ ]
-behind_register layout (frames.Terminate ∷ fs) h = elim h.0 [ ]
+behind_register layout (f ∷ fs) h = elim h.0 [ ]
 
 follows_run : (layout : Layout) (fs : List Frame) → Follow (places.Register layout) fs places.End → AreRun fs
 follows_run layout fs h =

@@ -1,4 +1,4 @@
-use Rattle.std.proofs.Common.{◌≡◌, Option, Some, Result, Ok, Err, refl, subst}
+use Rattle.std.proofs.Common.{◌≡◌, Option, Some, Result, Ok, refl, subst}
 use Rattle.det_io.specs.Shelf.{IsAtEnd}
 use Rattle.det_io.specs.Traffic.{failure_in}
 use Rattle.det_io.specs.declared.failure.Failure.TheVariants.{Write}
@@ -10,7 +10,7 @@ use Rattle.record_reader.proofs.lemmas.item_reader.Passing.{passed-on}
 use Rattle.record_reader.specs.item_reader.StandsFor as inner
 use Rattle.record_reader.specs.declared.frame_reader.OpenRecord.{OpenRecord}
 use Rattle.record_reader.specs.Frames.{HasOpened}
-use Rattle.record_reader.proofs.FrameReading.{is_header, header_given, opened, stopped, writes_nothing, no_memory}
+use Rattle.record_reader.proofs.FrameReading.{is_header, header_given, opened, stopped, writes_nothing}
 use Rattle.record_reader.proofs.frame_reader.open_record.Goals as goal
 
 pub returns-in_err-next-clause-opened : goal.returns-in_err-next-clause-opened

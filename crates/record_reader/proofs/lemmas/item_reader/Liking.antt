@@ -28,6 +28,7 @@ use Rattle.record_view.proofs.Spelled.{front_spells}
 use Rattle.record_reader.specs.declared.item_reader.reader.ItemReader.{ItemReader}
 use Rattle.record_reader.specs.declared.item_reader.comparison.Comparison.{Comparison}
 use Rattle.record_reader.specs.declared.item_reader.comparison.Comparison.TheVariants as likes
+use Rattle.record_reader.specs.declared.item_reader.comparison.Front.{Front}
 use Rattle.record_reader.specs.declared.item_reader.comparison.Front.TheVariants as fronts
 use Rattle.record_reader.specs.item_reader.Held.{held}
 use Rattle.record_reader.specs.item_reader.StandsFor.{StandsFor, unread, slot_of, ReadsIfNeeded, HasRead}
@@ -36,6 +37,12 @@ use Rattle.record_reader.specs.item_reader.Fronts.{Aside, AreNeeded, Restored, C
 use Rattle.record_reader.specs.item_reader.Comparison.{ComparisonIs, OtherIs, IsOther}
 use Rattle.record_reader.proofs.lemmas.item_reader.Reading.{scan_none}
 use Rattle.record_reader.proofs.lemmas.item_reader.Stepping.{needed_then, gave, ended}
+
+-- the result of a comparison, once its front is known
+pub compared_as : {front kind : Front} {bytes : List ℕ} {before after : ShelfState} {old new : ItemReader} → front ≡ kind
+    → Compared (Ok front) bytes before after old new → Compared (Ok kind) bytes before after old new
+compared_as {bytes = bytes} {before = before} {after = after} {old = old} {new = new} is h =
+    subst (λ (f : Front). Compared (Ok f) bytes before after old new) is h
 
 abbrev got_item : Item → List ℕ → reads.Read Item
 got_item item rest = reads.Got (item, rest)

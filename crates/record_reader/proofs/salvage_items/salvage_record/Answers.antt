@@ -1,4 +1,4 @@
-use Rattle.std.proofs.Common.{sym, ◌∙◌, Result}
+use Rattle.std.proofs.Common.{sym, ◌∙◌, Result, rules}
 use Rattle.det_io.specs.declared.failure.Stopped.{Stopped}
 use Rattle.det_io.specs.Traffic.{shelf_run, sink_run}
 use Rattle.record_grammar.specs.declared.record_fault.RecordFault.{RecordFault}
@@ -32,30 +32,16 @@ returns-in_err-settle_fault-clause-run g c = (_, stopped g c)
 pub returns-in_err-settle_fault-clause-nothing : goal.returns-in_err-settle_fault-clause-nothing
 returns-in_err-settle_fault-clause-nothing g c = told-nothing (stopped g c)
 
-pub returns-clause-run : goal.returns-clause-run
-returns-clause-run g c = (
-  _,
-  ended-finished c.salvage_items-read.result c.finish.result (g.K.Sink.took c.finish.new.sink) (g.K.Sink.faults c.finish.new.sink)
-      c.salvage_items-read.new.salvage c.salvage_items-read.ensures.items
-      (sym c.settle_fault.ensures ∙ c.in_ok-settle_fault.was) c.finish.ensures.finish,
-)
-
-pub returns-clause-ok : goal.returns-clause-ok
-returns-clause-ok g c =
-    told-ok (ended-finished c.salvage_items-read.result c.finish.result (g.K.Sink.took c.finish.new.sink) (g.K.Sink.faults
-    c.finish.new.sink)
-    c.salvage_items-read.new.salvage c.salvage_items-read.ensures.items
-    (sym c.settle_fault.ensures ∙ c.in_ok-settle_fault.was) c.finish.ensures.finish)
-
-pub returns-clause-part : goal.returns-clause-part
-returns-clause-part g c =
-    told-part (ended-finished c.salvage_items-read.result c.finish.result (g.K.Sink.took c.finish.new.sink) (g.K.Sink.faults
-    c.finish.new.sink)
-    c.salvage_items-read.new.salvage c.salvage_items-read.ensures.items
-    (sym c.settle_fault.ensures ∙ c.in_ok-settle_fault.was) c.finish.ensures.finish)
-
-pub returns-clause-nothing : goal.returns-clause-nothing
-returns-clause-nothing g c =
-    told-nothing (ended-finished c.salvage_items-read.result c.finish.result (g.K.Sink.took c.finish.new.sink)
+pub returns : goal.returns
+returns g c =
+    let ended = ended-finished c.salvage_items-read.result c.finish.result (g.K.Sink.took c.finish.new.sink)
     (g.K.Sink.faults c.finish.new.sink) c.salvage_items-read.new.salvage c.salvage_items-read.ensures.items
-    (sym c.settle_fault.ensures ∙ c.in_ok-settle_fault.was) c.finish.ensures.finish)
+    (sym c.settle_fault.ensures ∙ c.in_ok-settle_fault.was) c.finish.ensures.finish in
+    record {
+      ok = told-ok ended;
+      nothing = told-nothing ended;
+      part = told-part ended;
+      run = (_, ended);
+      shelf_traffic = search rules;
+      sink_traffic = search rules;
+    }

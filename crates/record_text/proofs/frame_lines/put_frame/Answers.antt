@@ -1,9 +1,9 @@
 use Rattle.std.proofs.Common.{arith}
-use Rattle.record_text.proofs.Viewed.{is_init}
+use Rattle.record_view.proofs.InitFrames.{of_init}
 use Rattle.record_text.proofs.frame_lines.put_frame.Goals as goal
 
 pub put_init_lines-requires : goal.put_init_lines-requires
 put_init_lines-requires c =
     let h = c.requires.1 in
-    let k = is_init c.args.view c.in-Init.elements c.requires.0 c.args.bytes.now c.in-Init.is h in
-    (k.elements, _, k.reads, omega (arith, k.long, h.exact))
+    let k = of_init c.args.view c.in-Init.elements c.requires.0 c.args.bytes.now c.in-Init.is h in
+    (k.elements, _, k.read, omega (arith, k.long, h.exact))

@@ -1,4 +1,4 @@
-use Rattle.std.proofs.Common.{◌≡◌, ◌≤◌, ℕ, ◌∙◌, arith}
+use Rattle.std.proofs.Common.{◌≤◌, arith}
 use Rattle.record_view.specs.Shows.{events_of}
 use Rattle.record_view.proofs.EqualItems.{spellings_equal}
 use Rattle.record_view.proofs.equal.are_equal_items.Goals as goal

@@ -1,8 +1,8 @@
-use Rattle.std.proofs.Common.{◌≡◌, ◌-◌, ℕ, List, None}
+use Rattle.std.proofs.Common.{◌-◌, ℕ, List, None}
 use Rattle.det_values.specs.declared.frames.CycleInput.{CycleInput}
 use Rattle.det_io.specs.Traffic.{ShelfTraffic, SinkTraffic, shelf_run, sink_run}
 use Rattle.probes.specs.Shows.{seen}
-use Rattle.stimulus.specs.slot_reader.StandsFor.{slot_of, events_of}
+use Rattle.stimulus.specs.slot_reader.StandsFor.{slot_of}
 use Rattle.recorder.proofs.Running.{Running}
 use Rattle.recorder.proofs.stimulus_run.record_run.Given as goal
 
@@ -13,9 +13,6 @@ invariant-cycles g l = record {
       (slot_of l.fn.stimulus) (g.K.Sink.took l.fn.sink) (g.K.Sink.took l.sink)
       (seen (λ b. (goal.Probe-dyn g (b.vtable, b.value)).life b.value) l.fn.audience)
       (seen (λ b. (goal.Probe-dyn g (b.vtable, b.value)).life b.value) l.audience) l.stimulus l.recording read given;
-  profile : l.recording.profile ≡ l.fn.recording.profile;
-  slot : slot_of l.stimulus ≡ slot_of l.fn.stimulus;
-  events : events_of l.stimulus ≡ events_of l.fn.stimulus;
   shelf_traffic : ShelfTraffic (shelf_run g.S.Slots.sees g.S.Slots.stays l.fn.shelf l.shelf) None;
   sink_traffic : SinkTraffic (sink_run g.K.Sink.took g.K.Sink.faults l.fn.sink l.sink) None;
 }

@@ -11,31 +11,19 @@ overflow_mul-result g c = omega (
 )
 
 pub overflow_add-result : goal.overflow_add-result
-overflow_add-result g c = omega (
-  arith,
-  c.self.invariant.1,
-  c.len.ensures,
-  c.index.result.now.ok.0,
-  held_length c.self.inside.blocks.items c.len-count.result c.index.result.now (c.len-count.ensures ∙ c.self.inside.blocks.ok.0)
-      (omega (arith, c.if-count-eq0.false)) c.self.invariant.0 c.index.ensures,
-)
+overflow_add-result g c =
+    let counted = held_length c.self.inside.blocks.items c.len-count.result c.len.result c.index.result.now
+    (c.len-count.ensures ∙ c.self.inside.blocks.ok.0) (omega (arith, c.if-count-eq0.false)) c.self.invariant.0 c.index.ensures c.len.ensures in
+    omega (arith, c.self.invariant.1, counted)
 
 pub returns-clause-len : goal.returns-clause-len
-returns-clause-len g c = omega (
-  arith,
-  ap length c.self.view_is,
-  c.len.ensures,
-  c.index.result.now.ok.0,
-  held_length c.self.inside.blocks.items c.len-count.result c.index.result.now (c.len-count.ensures ∙ c.self.inside.blocks.ok.0)
-      (omega (arith, c.if-count-eq0.false)) c.self.invariant.0 c.index.ensures,
-)
+returns-clause-len g c =
+    let counted = held_length c.self.inside.blocks.items c.len-count.result c.len.result c.index.result.now
+    (c.len-count.ensures ∙ c.self.inside.blocks.ok.0) (omega (arith, c.if-count-eq0.false)) c.self.invariant.0 c.index.ensures c.len.ensures in
+    omega (arith, ap length c.self.view_is, c.self.invariant.1, counted)
 
 pub returns-clause-most : goal.returns-clause-most
-returns-clause-most g c = omega (
-  arith,
-  c.self.invariant.1,
-  c.len.ensures,
-  c.index.result.now.ok.0,
-  held_length c.self.inside.blocks.items c.len-count.result c.index.result.now (c.len-count.ensures ∙ c.self.inside.blocks.ok.0)
-      (omega (arith, c.if-count-eq0.false)) c.self.invariant.0 c.index.ensures,
-)
+returns-clause-most g c =
+    let counted = held_length c.self.inside.blocks.items c.len-count.result c.len.result c.index.result.now
+    (c.len-count.ensures ∙ c.self.inside.blocks.ok.0) (omega (arith, c.if-count-eq0.false)) c.self.invariant.0 c.index.ensures c.len.ensures in
+    omega (arith, c.self.invariant.1, counted)

@@ -4,7 +4,6 @@ use Rattle.std.proofs.lemmas.List.{take_all}
 use Rattle.det_values.specs.Spelling.{spelled_all}
 use Rattle.record_codec.proofs.Flat.{blocks_spelled}
 use Rattle.recorder.specs.run_writer.Record.{counted}
-use Rattle.recorder.proofs.lemmas.run_writer.Parting.{count-next}
 use Rattle.recorder.proofs.run_writer.frame_parts.count_blocks.Goals as goal
 
 pub returns : goal.returns

@@ -33,9 +33,7 @@ returns-in-Item-clause-item g c =
     let h = c.steps.invariant in
     read_then c.args.self.now c.steps.self (λ slot. ItemIs (Ok (Some c.in-Item.view)) c.step.new.self
     (IsAtEnd (g.S.Slots.sees c.step.new.shelf) slot)) h.slot h.read
-    (subst (λ (p : Progress). HasRead (g.S.Slots.sees c.steps.shelf) (g.S.Slots.sees c.step.new.shelf) c.steps.self
-    (StepIs (Ok p) c.step.new.self (IsAtEnd (g.S.Slots.sees c.step.new.shelf) (slot_of c.steps.self)))) c.in-Item.is
-    c.in_ok-step.ensures.step)
+    (rw c.in-Item.is at c.in_ok-step.ensures.step)
 
 pub returns-in-Item-clause-room : goal.returns-in-Item-clause-room
 returns-in-Item-clause-room g c read given stands =
@@ -50,9 +48,7 @@ returns-in-End-clause-item g c =
     let h = c.steps.invariant in
     read_then c.args.self.now c.steps.self (λ slot. ItemIs (Ok None) c.step.new.self (IsAtEnd (g.S.Slots.sees c.step.new.shelf) slot))
     h.slot h.read
-    (subst (λ (p : Progress). HasRead (g.S.Slots.sees c.steps.shelf) (g.S.Slots.sees c.step.new.shelf) c.steps.self
-    (StepIs (Ok p) c.step.new.self (IsAtEnd (g.S.Slots.sees c.step.new.shelf) (slot_of c.steps.self)))) c.in-End.is
-    c.in_ok-step.ensures.step)
+    (rw c.in-End.is at c.in_ok-step.ensures.step)
 
 pub returns-in-End-clause-room : goal.returns-in-End-clause-room
 returns-in-End-clause-room g c read given stands =

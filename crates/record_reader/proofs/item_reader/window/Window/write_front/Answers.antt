@@ -9,6 +9,6 @@ returns c =
     let at : ℕ = w.from - length bytes in
     let xs = w.buffer.items in
     let e : at + length bytes ≡ w.from = omega arith in
-    ap (λ (ys : List ℕ). drop at (take w.to ys)) c.write_at.ensures.items
+    ap (λ (ys : List ℕ). drop at (take w.to ys)) c.write_buffer_at.ensures.items
     ∙ ap (λ (k : ℕ). drop at (take w.to (take at xs ++ (bytes ++ drop k xs)))) e
     ∙ wrote_front at w.from w.to xs bytes e (omega arith) (omega (arith, w.buffer.ok.0))

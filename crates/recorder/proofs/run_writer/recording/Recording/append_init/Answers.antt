@@ -1,7 +1,5 @@
-use Rattle.std.proofs.Common.{ap, map, sym, ◌++◌, ◌∙◌, ℕ, List}
-use Rattle.std.specs.List.{flat_map}
+use Rattle.std.proofs.Common.{map, sym, ◌∙◌}
 use Rattle.std.proofs.lemmas.List.{length-map}
-use Rattle.record_grammar.specs.Spelling.{spelled_element}
 use Rattle.recorder.proofs.run_writer.recording.Recording.append_init.Goals as goal
 
 pub returns-clause-bytes : goal.returns-clause-bytes

@@ -1,4 +1,4 @@
-use Rattle.std.proofs.Common.{◌<◌, length, sym, subst}
+use Rattle.std.proofs.Common.{◌<◌, sym, subst}
 use Rattle.std.specs.List.{All}
 use Rattle.det_values.specs.Values.{SampleValue}
 use Rattle.cycle_engine.proofs.Standing.{stands_events}

@@ -1,0 +1,8 @@
+use Rattle.std.proofs.Common.{◌≡◌, ◌++◌, OnOk, subst}
+use Rattle.det_values.specs.Spelling.{an_element, spelled_drawn}
+use Rattle.jobs.proofs.cloud.cloud_job.CloudJob.put_drawn.Goals as goal
+
+pub returns-clause-ok : goal.returns-clause-ok
+returns-clause-ok c = let result = c.put_drawn_bytes in
+    subst (λ xs. OnOk result.result (result.new.out.items ≡ c.args.out.now.items ++ spelled_drawn (an_element xs c.args.draws)))
+    c.particle_bytes.ensures result.ensures.ok
