@@ -1,3 +1,4 @@
 pub mod Keeping
 pub mod AnswerMeets
 pub mod KnownBytes
+pub mod FoundMeets

@@ -84,7 +84,7 @@ impl From<Stopped<RecordFault>> for Answer {
     }
 }
 
-fn word_of(reason: Reason) -> &'static str
+fn reason_answer_word(reason: Reason) -> &'static str
     ensures word { result.now ≡ reason_word reason }
     ensures short { length result.now ≤ 9 }
 {
@@ -99,7 +99,7 @@ fn word_of(reason: Reason) -> &'static str
     }
 }
 
-fn key_line(words: &str, key: Key) -> AnswerLine
+fn key_answer_line(words: &str, key: Key) -> AnswerLine
     requires { length words.now ≤ 40 }
     ensures { result ≡ ended (words.now ++ key_text key) }
 {
@@ -110,7 +110,7 @@ fn key_line(words: &str, key: Key) -> AnswerLine
     line
 }
 
-fn number_line(words: &str, number: u64) -> AnswerLine
+fn number_answer_line(words: &str, number: u64) -> AnswerLine
     requires { length words.now ≤ 40 }
     ensures { result ≡ ended (words.now ++ decimal number) }
 {
@@ -140,7 +140,7 @@ impl AnswerLine {
     }
 }
 
-fn unknown_line(key: UnknownKey) -> AnswerLine
+fn unknown_key_answer_line(key: UnknownKey) -> AnswerLine
     ensures { result ≡ ended (codes "bad manifest: unknown key " ++ unknown_text key) }
 {
     let mut line = AnswerLine::from_text("bad manifest: unknown key ");
@@ -157,29 +157,29 @@ fn fault_line(fault: ManifestFault) -> AnswerLine
     match fault {
         ManifestFault::TooLong => AnswerLine::from_text("bad manifest: too long\n"),
         ManifestFault::NotToml => AnswerLine::from_text("bad manifest: not toml\n"),
-        ManifestFault::Missing(key) => key_line("bad manifest: missing ", key),
-        ManifestFault::WrongKind(key) => key_line("bad manifest: wrong kind ", key),
-        ManifestFault::OutOfRange(key) => key_line("bad manifest: out of range ", key),
-        ManifestFault::UnknownKey(key) => unknown_line(key),
+        ManifestFault::Missing(key) => key_answer_line("bad manifest: missing ", key),
+        ManifestFault::WrongKind(key) => key_answer_line("bad manifest: wrong kind ", key),
+        ManifestFault::OutOfRange(key) => key_answer_line("bad manifest: out of range ", key),
+        ManifestFault::UnknownKey(key) => unknown_key_answer_line(key),
         ManifestFault::DuplicateEvent(number) => {
-            number_line("bad manifest: duplicate event ", number as u64)
+            number_answer_line("bad manifest: duplicate event ", number as u64)
         }
         ManifestFault::UnknownJob => AnswerLine::from_text("bad manifest: unknown job\n"),
     }
 }
 
-fn manifest_line(why: BadManifest) -> AnswerLine
+fn manifest_answer_line(why: BadManifest) -> AnswerLine
     ensures { result ≡ ended (codes "bad manifest: " ++ bad_manifest_text why) }
 {
     match why {
         BadManifest::Fault(fault) => fault_line(fault),
         BadManifest::Parameter(index) => {
-            number_line("bad manifest: bad parameter ", index as u64)
+            number_answer_line("bad manifest: bad parameter ", index as u64)
         }
     }
 }
 
-fn record_line(copy: u32, fault: RecordFault) -> AnswerLine
+fn record_answer_line(copy: u32, fault: RecordFault) -> AnswerLine
     ensures { result ≡ ended (bad_record_text copy fault) }
 {
     let mut line = AnswerLine::new();
@@ -188,7 +188,7 @@ fn record_line(copy: u32, fault: RecordFault) -> AnswerLine
     line.push(" offset ");
     line.push_number(fault.offset);
     line.push(" ");
-    line.push(word_of(fault.reason));
+    line.push(reason_answer_word(fault.reason));
     line.push("\n");
     line
 }
@@ -222,14 +222,14 @@ impl Answer {
             Answer::Done => AnswerLine::new(),
             Answer::Differs => AnswerLine::new(),
             Answer::BadWords => AnswerLine::from_text("bad words\n"),
-            Answer::BadManifest(why) => manifest_line(why),
-            Answer::BadStimulus { line } => number_line("bad stimulus: line ", line),
-            Answer::BadRecord { copy, fault } => record_line(copy, fault),
+            Answer::BadManifest(why) => manifest_answer_line(why),
+            Answer::BadStimulus { line } => number_answer_line("bad stimulus: line ", line),
+            Answer::BadRecord { copy, fault } => record_answer_line(copy, fault),
             Answer::BadProfile => AnswerLine::from_text("bad record: profile\n"),
             Answer::ReadFault => AnswerLine::from_text("read fault\n"),
             Answer::WriteFault => AnswerLine::from_text("write fault\n"),
             Answer::OutOfMemory => AnswerLine::from_text("out of memory\n"),
-            Answer::NoMajority { row } => number_line("no majority: row ", row as u64),
+            Answer::NoMajority { row } => number_answer_line("no majority: row ", row as u64),
         }
     }
 }

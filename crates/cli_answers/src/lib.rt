@@ -8,5 +8,5 @@ mod line;
 mod status;
 
 pub use answer::{Answer, BadManifest};
-pub use line::AnswerLine;
+pub use line::{AnswerLine, write_line};
 pub use status::Status;

@@ -1,7 +1,10 @@
 //! `AnswerLine`, a short text in an array, so that an error can be reported when no memory is left.
 ghost use Rattle.std.specs.Prelude.{◌≡◌, ◌+◌, ◌≤◌, [], ◌∷◌, ◌++◌, length, map, decimal};
 ghost use Rattle.cli_answers.specs.Answers.{printable};
+ghost use Rattle.cli_answers.specs.Outcome.{WritesLine};
+ghost use Rattle.det_io.specs.Traffic.{sink_run};
 
+use det_io::{Sink, write_all};
 use itoa::Buffer;
 use std::marker::Model;
 
@@ -95,4 +98,12 @@ impl AnswerLine {
     {
         &self.bytes[..self.len]
     }
+}
+
+/// Writes the line that a program ends with. A write that fails is not reported: no other stream is
+/// left for that.
+pub fn write_line<E: Sink>(line: &AnswerLine, err: &mut E)
+    ensures { WritesLine line.now (sink_run E.took E.faults err.old err.new) }
+{
+    let _ = write_all(err, line.as_slice());
 }

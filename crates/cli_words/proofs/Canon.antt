@@ -21,8 +21,8 @@ use Rattle.cli_words.proofs.Growing.{read-given}
 use Rattle.cli_words.proofs.Spelling.{spelled}
 use Rattle.cli_words.specs.FirstWord.{read}
 
-pub grammar_law : (words : List (List ℕ)) (c : CommandValue) → (command_of words ≡ Some c) ↔ (IsInRange c × IsSpelling words c)
-grammar_law words c = (
+pub command_grammar_law : (words : List (List ℕ)) (c : CommandValue) → (command_of words ≡ Some c) ↔ (IsInRange c × IsSpelling words c)
+command_grammar_law words c = (
   (λ e. (in_range words c e, spelled (in_long_form words) c e)),
   λ both. let s = both.1 in
       ap read_long_form s.1 ∙ read-given (row c.word).word s.0 c both.0 s.2 (own-command c.word),
@@ -135,7 +135,7 @@ given c =
           ∙ values-told o c.options OPTIONS ∙ values-own o c.options;
     }
 
-pub canonical_law : (c : CommandValue) → IsInRange c → command_of (words_of c) ≡ Some c
-canonical_law c range =
+pub canonical_words_law : (c : CommandValue) → IsInRange c → command_of (words_of c) ≡ Some c
+canonical_words_law c range =
     let items = map (λ n. name n) c.names ++ flat_map (given_items c.options) OPTIONS in
     own-words c.word (words_in items) c (read-given (row c.word).word items c range (given c) (own-command c.word))

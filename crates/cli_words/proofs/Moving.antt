@@ -189,11 +189,11 @@ words-long : (items : List Item) → length items ≤ length (words_in items)
 words-long [] = omega arith
 words-long (item ∷ rest) = omega (arith, item-long item, words-long rest, length-append (item_words item) (words_in rest))
 
-pub position_law : (first : List ℕ) (front back : List Item) (o : OptionWord) (n : ℕ) → All IsItem front → All IsItem back
+pub option_position_law : (first : List ℕ) (front back : List Item) (o : OptionWord) (n : ℕ) → All IsItem front → All IsItem back
     → IsWithin (option_row o).range n
     → command_of (first ∷ words_in (front ++ option o n ∷ back)) ≡ command_of (first ∷ words_in (option o n ∷ (front ++ back)))
-position_law first [] back o n fronts backs within = refl
-position_law first (item ∷ front) back o n fronts backs within =
+option_position_law first [] back o n fronts backs within = refl
+option_position_law first (item ∷ front) back o n fronts backs within =
     let a = item ∷ front in
     let own : IsItem (option o n) = within in
     let inside-items = All-append IsItem a (option o n ∷ back) fronts (All-cons IsItem (option o n) back own backs) in

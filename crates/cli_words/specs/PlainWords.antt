@@ -8,12 +8,12 @@ use Rattle.cli_words.specs.Number.{number_of}
 use Rattle.cli_words.specs.Reading.{long_form}
 
 -- 2 to 8 copies
-abbrev pub copies_in : ℕ → Option ℕ
-copies_in n = if nat_le 2 n && nat_le n 8 then Some n else None
+abbrev pub copy_words_in : ℕ → Option ℕ
+copy_words_in n = if nat_le 2 n && nat_le n 8 then Some n else None
 
 -- the number of copies that an argument spells in decimal
 abbrev pub parse_copies : List ℕ → Option ℕ
-parse_copies word = option_and_then copies_in (number_of word)
+parse_copies word = option_and_then copy_words_in (number_of word)
 
 abbrev pub text_named : List ℕ → Option TextWord
 text_named word =

@@ -1,11 +1,11 @@
 //! The number of copies that `det_lane` and `det_twin` run side by side.
 ghost use Rattle.std.specs.Prelude.{◌≡◌, ◌≤◌, IfSome};
-ghost use Rattle.cli_words.specs.PlainWords.{copies_in, parse_copies};
+ghost use Rattle.cli_words.specs.PlainWords.{copy_words_in, parse_copies};
 
 use crate::number::number_of;
 
-fn copies_in(number: u64) -> Option<u32>
-    ensures is { result ≡ copies_in number }
+fn copy_words_in(number: u64) -> Option<u32>
+    ensures is { result ≡ copy_words_in number }
     ensures some { IfSome result (λ copies. 2 ≤ copies) }
     ensures few { IfSome result (λ copies. copies ≤ 8) }
 {
@@ -22,5 +22,5 @@ pub fn parse_copies(word: &str) -> Option<u32>
     ensures some { IfSome result (λ copies. 2 ≤ copies) }
     ensures few { IfSome result (λ copies. copies ≤ 8) }
 {
-    copies_in(number_of(word)?)
+    copy_words_in(number_of(word)?)
 }

@@ -10,20 +10,20 @@ ghost use Rattle.cli_words.specs.Reading.{command_of};
 ghost use Rattle.cli_words.specs.Items.{Item, option, IsItem, IsSpelling, words_in, words_of};
 
 /// A 64-bit number has exactly one spelling, its decimal.
-pub fn spelling_law()
+pub fn word_spelling_law()
     ensures spelling { (word : List ℕ) (n : ℕ) → n < 2 ^ 64
         → (number_of word ≡ Some n) ↔ (word ≡ decimal n) }
     ensures limit { (word : List ℕ) (n : ℕ) → number_of word ≡ Some n → n < 2 ^ 64 }
 {}
 
 /// Every command that is read keeps to its row of the table.
-pub fn range_law()
+pub fn option_range_law()
     ensures { (words : List (List ℕ)) (command : CommandValue)
         → command_of words ≡ Some command → IsInRange command }
 {}
 
 /// A command that keeps to its row is read from its canonical arguments.
-pub fn canonical_law()
+pub fn canonical_words_law()
     ensures { (command : CommandValue)
         → IsInRange command → command_of (words_of command) ≡ Some command }
 {}
@@ -31,13 +31,13 @@ pub fn canonical_law()
 /// Exactly these arguments are a command: in their long form, the word of a row, then names and
 /// options in any order that keep to the row. Each option comes at most once, with its value right
 /// after it.
-pub fn grammar_law()
+pub fn command_grammar_law()
     ensures { (words : List (List ℕ)) (command : CommandValue)
         → (command_of words ≡ Some command) ↔ (IsInRange command × IsSpelling words command) }
 {}
 
 /// The place of an option, with its value, among the names and options changes nothing.
-pub fn position_law()
+pub fn option_position_law()
     ensures { (first : List ℕ) (front back : List Item) (word : OptionWord) (value : ℕ)
         → All IsItem front → All IsItem back → IsWithin (option_row word).range value
         → command_of (first ∷ words_in (front ++ option word value ∷ back))

@@ -1,9 +1,10 @@
-//! The grammar of `det`'s command line: which arguments are a command, with which names and
-//! options.
-//! `table` lists the commands and options, `reading` reads arguments by it. `det_lane` and
-//! `det_twin` have no commands. They use the numbers, names and texts of this crate.
+//! The grammar of `det`'s command line: which arguments are a command, with which names, numbers
+//! and options; and the laws of that grammar. `table` lists the commands and options, `reading`
+//! reads arguments by it. `det_lane` and `det_twin` have no commands. They use the numbers, names
+//! and texts of this crate.
 #![tactic(auto)]
 
+mod arguments;
 mod command;
 mod copies;
 pub mod laws;
@@ -15,6 +16,7 @@ mod reading;
 mod table;
 mod text_word;
 
+pub use arguments::program_words;
 pub use command::Command;
 pub use copies::parse_copies;
 pub use name_kind::is_name;

@@ -160,7 +160,7 @@ fn read<'a>(first: &str, rest: &'a [String]) -> Option<Command<'a>>
 /// The same with one argument after the command, so that the aliases need no new array of
 /// arguments.
 #[tactic(auto, unfolding(crate::specs::Reading::with_words))]
-fn read_pair<'a>(first: &str, second: &'a str) -> Option<Command<'a>>
+fn read_option_pair<'a>(first: &str, second: &'a str) -> Option<Command<'a>>
     ensures { option_map command_value result ≡ read first.now (second.now ∷ []) }
 {
     let word = CommandWord::from_word(first)?;
@@ -181,16 +181,16 @@ pub fn long_form(word: &str) -> &str
     }
 }
 
-fn read_two<'a>(first: &'a str, second: &'a str) -> Option<Command<'a>>
+fn read_two_words<'a>(first: &'a str, second: &'a str) -> Option<Command<'a>>
     ensures { option_map command_value result ≡ read_long_form (long_form_pair first.now second.now) }
 {
     if first == "help" {
-        return read_pair("--help", second);
+        return read_option_pair("--help", second);
     }
     if second == "--help" {
-        return read_pair("--help", first);
+        return read_option_pair("--help", first);
     }
-    read_pair(first, second)
+    read_option_pair(first, second)
 }
 
 /// Reads the arguments after the program's name. None if they are no command.
@@ -200,7 +200,7 @@ pub fn read_words(words: &[String]) -> Option<Command<'_>>
     match words {
         [] => None,
         [word] => read(long_form(word.as_str()), &[]),
-        [first, second] => read_two(first.as_str(), second.as_str()),
+        [first, second] => read_two_words(first.as_str(), second.as_str()),
         [first, _, _, ..] => read(first.as_str(), &words[1..]),
     }
 }

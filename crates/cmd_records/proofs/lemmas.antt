@@ -1,3 +1,4 @@
+pub mod command_ends
 pub mod compare_command
 pub mod open_names
 pub mod record_show

@@ -1,3 +1,2 @@
 pub mod Salvage
-pub mod WatchedItems
 pub mod ReportEnds

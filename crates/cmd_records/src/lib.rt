@@ -4,6 +4,7 @@
 //! `vote` over slots.
 #![tactic(auto)]
 
+mod command_ends;
 pub mod compare_command;
 pub mod open_names;
 pub mod record_show;

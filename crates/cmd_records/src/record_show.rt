@@ -5,6 +5,7 @@ mod printer;
 mod show_items;
 mod shown;
 
-pub use presenter::Presenter;
+pub(crate) use printer::Printer;
+pub(crate) use show_items::show_items;
 pub use show_items::show_run;
 pub use shown::Shown;

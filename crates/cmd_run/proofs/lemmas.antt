@@ -1,6 +1,5 @@
 pub mod chain
 pub mod chain_command
-pub mod crew_recorder
 pub mod needs_command
 pub mod record_command
 pub mod sim_command

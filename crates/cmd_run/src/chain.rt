@@ -7,5 +7,5 @@ mod output_samples;
 mod run_chain;
 
 pub use chain_counts::ChainCounts;
-pub use output_samples::derived_input;
+pub use output_samples::chained_input;
 pub use run_chain::chain_run;

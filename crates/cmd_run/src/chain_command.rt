@@ -2,7 +2,6 @@
 //! first.
 
 mod chain_task;
-mod chain_visit;
 mod over_stimulus;
 
 pub use chain_task::{ChainTask, chain};

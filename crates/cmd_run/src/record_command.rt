@@ -8,4 +8,5 @@ mod run_plan;
 
 pub use built_in::demo;
 pub use by_manifest::{RecordTask, record_by_manifest};
+pub(crate) use over_stimulus::stimulus_answer;
 pub use run_plan::plan_run;

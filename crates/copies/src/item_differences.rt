@@ -21,8 +21,8 @@ use crate::frame_differences::at_element;
 use record_grammar::Place;
 use record_view::{
     ElementWalk, FrameKind, FrameView, InputView, ItemView, OutcomeView, SampleWalk,
-    are_equal_items, elements_in, events_at, format_at, init_elements_in, output_in, refusal_in,
-    samples_in,
+    are_equal_items, events_at, format_at, view_elements, view_init_elements, view_output,
+    view_refusal, view_samples,
 };
 
 /// The first difference of two items of one row, in the order of the variants of `Difference`. Row
@@ -96,8 +96,8 @@ fn frame_difference(
         },
         FrameKind::Init { elements } => match right.kind {
             FrameKind::Init { elements: others } => {
-                let left = init_elements_in(elements, left_bytes);
-                let right = init_elements_in(others, right_bytes);
+                let left = view_init_elements(elements, left_bytes);
+                let right = view_init_elements(others, right_bytes);
                 at_element(cycle, elements_apart(elements.max(others), left, right))
             }
             _ => Some(Difference::Kind(frame)),
@@ -154,8 +154,8 @@ fn run_difference(
         return Some(Difference::Time(cycle));
     }
     let most = left.input.samples.max(right.input.samples);
-    let samples = samples_in(events_at(left.place), left.input, left_bytes);
-    let others = samples_in(events_at(right.place), right.input, right_bytes);
+    let samples = view_samples(events_at(left.place), left.input, left_bytes);
+    let others = view_samples(events_at(right.place), right.input, right_bytes);
     if !are_same_samples(most, samples, others) {
         return Some(Difference::Samples(cycle));
     }
@@ -186,13 +186,13 @@ fn outcome_difference(
                 output_at: other_at,
             } => {
                 let most = elements.max(others);
-                let left_walk = elements_in(
+                let left_walk = view_elements(
                     format_at(left.place),
                     elements,
                     elements_at,
                     left_bytes,
                 );
-                let right_walk = elements_in(
+                let right_walk = view_elements(
                     format_at(right.place),
                     others,
                     others_at,
@@ -200,8 +200,11 @@ fn outcome_difference(
                 );
                 match elements_apart(most, left_walk, right_walk) {
                     Some(element) => Some(Difference::Element { cycle, element }),
-                    None if output_in(output_at, left_bytes) != output_in(other_at, right_bytes) =>
-                        { Some(Difference::Output(cycle)) }
+                    None
+                        if view_output(output_at, left_bytes)
+                            != view_output(other_at, right_bytes) => {
+                        Some(Difference::Output(cycle))
+                    }
                     None => None,
                 }
             }
@@ -210,7 +213,7 @@ fn outcome_difference(
         OutcomeView::Refused { at } => match right.outcome {
             OutcomeView::Finished { .. } => Some(Difference::Result(cycle)),
             OutcomeView::Refused { at: other } => {
-                if refusal_in(at, left_bytes) != refusal_in(other, right_bytes) {
+                if view_refusal(at, left_bytes) != view_refusal(other, right_bytes) {
                     return Some(Difference::Result(cycle));
                 }
                 None

@@ -1,4 +1,5 @@
-//! Compares copies of a record side by side, up to the first place where they differ.
+//! Compares copies of a record side by side, item by item, up to the first place where they
+//! differ.
 #![tactic(auto)]
 
 mod copies;

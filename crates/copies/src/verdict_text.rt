@@ -2,4 +2,4 @@
 
 mod verdict_lines;
 
-pub use verdict_lines::{put_place, verdict_line};
+pub use verdict_lines::{put_difference_place, verdict_line};

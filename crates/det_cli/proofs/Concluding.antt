@@ -3,6 +3,7 @@ use Rattle.std.proofs.Common.{◌≡◌, ℕ, List, refl, sym, ap, subst, ◌∙
 use Rattle.std.specs.Prelude.{◌⊎◌, true, Option, Some, None, unwrap_or}
 use Rattle.det_io.specs.Sink.{Grew}
 use Rattle.det_io.specs.Shelf.{ShelfState}
+use Rattle.det_io.specs.Traffic.{SinkRun}
 use Rattle.probes.specs.Reports.{AudienceState}
 use Rattle.cli_answers.specs.declared.status.Status.{Status}
 use Rattle.cli_answers.specs.declared.status.Status.TheVariants as statuses
@@ -35,27 +36,27 @@ at-bad-words _ e = absurd (cc)
 no-bad-words : (work : Work) (answer : Answer) → answer ≡ BadWords → can_end work answer ≡ true → ⊥
 no-bad-words work answer e ends = let h = rw e at ends in cc
 
-module _ (wanted : Outcome) (before after : List ℕ → Type 0) (answer : Answer) (status : Status) (is : status ≡ status_of answer) where
+module _ (wanted : Outcome) (out : SinkRun) (answer : Answer) (status : Status) (is : status ≡ status_of answer) where
   -- if the status is no fault's, the outcome is given or memory ran out
   gives : (status ≡ statuses.ReadFault → ⊥) → (status ≡ statuses.WriteFault → ⊥)
       → (answer ≡ ReadFault) ⊎ ((answer ≡ WriteFault) ⊎ ((answer ≡ OutOfMemory)
-      ⊎ ((answer ≡ wanted.answer) × Grew before after wanted.bytes)))
-      → (status ≡ statuses.OutOfMemory) ⊎ Gives wanted before after status
+      ⊎ ((answer ≡ wanted.answer) × Grew out.before out.after wanted.bytes)))
+      → (status ≡ statuses.OutOfMemory) ⊎ Gives wanted out status
   gives no_read no_write (inl read) = absurd (no_read (is ∙ ap status_of read))
   gives no_read no_write (inr (inl write)) = absurd (no_write (is ∙ ap status_of write))
   gives no_read no_write (inr (inr (inl memory))) = inl (is ∙ ap status_of memory)
   gives no_read no_write (inr (inr (inr whole))) = inr (record { same = is ∙ ap status_of whole.0; bytes = whole.1 })
 
   but-memory : (status ≡ statuses.OutOfMemory → ⊥)
-      → (status ≡ statuses.OutOfMemory) ⊎ Gives wanted before after status → Gives wanted before after status
+      → (status ≡ statuses.OutOfMemory) ⊎ Gives wanted out status → Gives wanted out status
   but-memory no_memory (inl memory) = absurd (no_memory memory)
   but-memory no_memory (inr given) = given
 
   -- with no failure's status the outcome is given
   gives-all : (status ≡ statuses.ReadFault → ⊥) → (status ≡ statuses.WriteFault → ⊥) → (status ≡ statuses.OutOfMemory → ⊥)
       → (answer ≡ ReadFault) ⊎ ((answer ≡ WriteFault) ⊎ ((answer ≡ OutOfMemory)
-      ⊎ ((answer ≡ wanted.answer) × Grew before after wanted.bytes)))
-      → Gives wanted before after status
+      ⊎ ((answer ≡ wanted.answer) × Grew out.before out.after wanted.bytes)))
+      → Gives wanted out status
   gives-all no_read no_write no_memory whole = but-memory no_memory (gives no_read no_write whole)
 
 -- a refusal is none of these
@@ -72,35 +73,35 @@ some-none c e = cc
 same-of : (c d : CommandValue) → Some c ≡ Some d → c ≡ d
 same-of c d e = ap (λ (o : Option CommandValue). unwrap_or o c) e
 
-module _ (first last : ShelfState) (out_failed : Type 0) (before after : List ℕ → Type 0) (seeing stayed : AudienceState)
+module _ (first last : ShelfState) (out : SinkRun) (seeing stayed : AudienceState)
     (answer : Answer) (status : Status) (is : status ≡ status_of answer) where
-  of-command : (c : CommandValue) → Runs c first last out_failed before after seeing stayed answer
-      → OfCommand c first last out_failed before after seeing status
+  of-command : (c : CommandValue) → Runs c first last out seeing stayed answer
+      → OfCommand c first last out seeing status
   of-command c runs =
       let wanted = outcome_by c.word c (known_bytes first) seeing in
       let meets = runs.meets in
       record {
-        unfailed = λ is_known calm taken. gives wanted before after answer status is
+        unfailed = λ is_known calm taken. gives wanted out answer status is
             (λ e. calm (meets.read_fault (at-read-fault answer (sym is ∙ e))))
             (λ e. taken (meets.write_fault (at-write-fault answer (sym is ∙ e)))) (meets.whole is_known);
-        done = λ is_known e. gives-all wanted before after answer status is (λ f. cc) (λ f. cc) (λ f. cc) (meets.whole is_known);
-        differs = λ is_known e. gives-all wanted before after answer status is (λ f. cc) (λ f. cc) (λ f. cc) (meets.whole is_known);
-        refused = λ is_known e. gives-all wanted before after answer status is
+        done = λ is_known e. gives-all wanted out answer status is (λ f. cc) (λ f. cc) (λ f. cc) (meets.whole is_known);
+        differs = λ is_known e. gives-all wanted out answer status is (λ f. cc) (λ f. cc) (λ f. cc) (meets.whole is_known);
+        refused = λ is_known e. gives-all wanted out answer status is
             (no-refusal status statuses.ReadFault e (λ f. cc) (λ f. cc) (λ f. cc))
             (no-refusal status statuses.WriteFault e (λ f. cc) (λ f. cc) (λ f. cc))
             (no-refusal status statuses.OutOfMemory e (λ f. cc) (λ f. cc) (λ f. cc)) (meets.whole is_known);
-        no_majority = λ is_known e. gives-all wanted before after answer status is (λ f. cc) (λ f. cc) (λ f. cc) (meets.whole is_known);
+        no_majority = λ is_known e. gives-all wanted out answer status is (λ f. cc) (λ f. cc) (λ f. cc) (meets.whole is_known);
       }
 
   module _ (words : List (List ℕ)) where
     by-words : (read : Option CommandValue) → command_of words ≡ read
-        → RunsWords read first last out_failed before after seeing stayed answer
-        → Concludes words first last out_failed before after seeing status
+        → RunsWords read first last out seeing stayed answer
+        → Concludes words first last out seeing status
     by-words (Some c) same runs =
         let not_bad : status ≡ statuses.BadWords → ⊥ =
         λ e. no-bad-words (work_of c.word) answer (at-bad-words answer (sym is ∙ e)) runs.ends in
         record {
-          command = λ d other. subst (λ (e : CommandValue). OfCommand e first last out_failed before after seeing status)
+          command = λ d other. subst (λ (e : CommandValue). OfCommand e first last out seeing status)
               (same-of c d (sym same ∙ other)) (of-command c runs);
           read_fault = λ e. runs.meets.read_fault (at-read-fault answer (sym is ∙ e));
           write_fault = λ e. runs.meets.write_fault (at-write-fault answer (sym is ∙ e));
@@ -117,8 +118,7 @@ module _ (first last : ShelfState) (out_failed : Type 0) (before after : List �
           unwritten = λ e. refuses.wrote;
         }
 
-module _ (words : List (List ℕ)) (first last : ShelfState) (out_failed : Type 0) (before after : List ℕ → Type 0)
-    (err_failed : Type 0) (err_before err_after : List ℕ → Type 0) (seeing stayed : AudienceState) (status : Status) where
-  pub concludes : IsPromised words first last out_failed before after err_failed err_before err_after seeing stayed status
-      → Concludes words first last out_failed before after seeing status
-  concludes p = by-words first last out_failed before after seeing stayed p.answer status p.is words (command_of words) refl p.runs
+module _ (words : List (List ℕ)) (first last : ShelfState) (out err : SinkRun) (seeing stayed : AudienceState) (status : Status) where
+  pub concludes : IsPromised words first last out err seeing stayed status
+      → Concludes words first last out seeing status
+  concludes p = by-words first last out seeing stayed p.answer status p.is words (command_of words) refl p.runs

@@ -10,13 +10,13 @@ use Rattle.cli_words.specs.Table.{row, command_word}
 use Rattle.cli_words.specs.Command.{CommandValue}
 use Rattle.cli_words.specs.Ranges.{IsInRange}
 use Rattle.cli_words.proofs.Parting.{command-is}
-use Rattle.det_cli.specs.Texts.{page_of, help_text}
+use Rattle.det_cli.specs.Texts.{command_page, help_text}
 
 abbrev IsThere : Option (List ℕ) → Type 0
 IsThere told = (text : List ℕ) × (told ≡ Some text)
 
 -- a command whose word is a name has a page
-page-there : (word : CommandWord) → is_name (row word).word ≡ true → IsThere (page_of word)
+page-there : (word : CommandWord) → is_name (row word).word ≡ true → IsThere (command_page word)
 page-there Demo name = (_, refl)
 page-there Record name = (_, refl)
 page-there Replay name = (_, refl)
@@ -38,7 +38,7 @@ both true false e = absurd cc
 both false b e = absurd cc
 
 named-there : (name : List ℕ) (found : Option CommandWord) → command_word name ≡ found → is_name name ≡ true → is_some found ≡ true
-    → IsThere (option_and_then page_of found)
+    → IsThere (option_and_then command_page found)
 named-there name (Some word) is named some =
     page-there word (subst (λ (w : List ℕ). is_name w ≡ true) (sym (command-is name word is)) named)
 named-there name None is named some = absurd cc

@@ -1,15 +1,16 @@
 -- How a command's run meets the outcome of the words.
 use Rattle.std.proofs.Common.{◌≡◌, ◌≤◌, ℕ, List, [], ◌∷◌, length, map, get_or, refl, ap, ◌∙◌, sym, subst, arith}
-use Rattle.std.specs.Prelude.{Option, Some, None, IfSome, Bool, true, false, Result, Ok, Err, OnOk}
-use Rattle.std.specs.Prelude.{OnErr, MatchOption}
+use Rattle.std.specs.Prelude.{Option, Some, None, IfSome, Bool, true, false, MatchOption}
 use Rattle.std.proofs.lemmas.List.{nil_from_length, length-map}
 use Rattle.det_io.specs.Shelf.{ShelfState}
 use Rattle.det_io.specs.Sink.{GrewByPrefix}
+use Rattle.det_io.specs.Traffic.{SinkRun}
 use Rattle.det_io.proofs.Growth.{grew-none}
 use Rattle.probes.specs.Reports.{AudienceState}
 use Rattle.cli_answers.specs.declared.answer.Answer.{Answer}
 use Rattle.cli_answers.specs.declared.answer.Answer.TheVariants.{Differs, BadWords}
 use Rattle.cli_answers.specs.Ends.{Work, can_end}
+use Rattle.cli_answers.proofs.AnswerMeets.{unwritten}
 use Rattle.cli_words.specs.declared.table.CommandWord.{CommandWord}
 use Rattle.cli_words.specs.declared.table.OptionWord.TheVariants.{Workers}
 use Rattle.cli_words.specs.Table.{row}
@@ -126,9 +127,9 @@ pub no-difference : (work : Work) (answer : Answer) → answer ≡ Differs → c
 no-difference work answer e ends alone = let h = rw e at ends in let none = sym alone ∙ h in cc
 
 -- runs that were reported of a record have no lines
-pub reported-runs : {old now : AudienceState} {record_bytes bytes : List ℕ} {before after : List ℕ → Type 0}
-    → salvaging.SawFirst old now record_bytes → GrewByPrefix before after bytes
-    → showing.SawFirst parts.Reports old now record_bytes before after
+pub reported-runs : {old now : AudienceState} {record_bytes bytes : List ℕ} {out : SinkRun}
+    → salvaging.SawFirst old now record_bytes → GrewByPrefix out.before out.after bytes
+    → showing.SawFirst parts.Reports old now record_bytes out
 reported-runs saw part = record {
   seen = saw.seen;
   first = saw.first;
@@ -150,33 +151,25 @@ workers-fit c range = by_told c.options.workers refl where
   by_told None e = tt
 
 -- what is promised of a command is promised of the same one
-pub runs-command : (first last : ShelfState) (other : Type 0) (before after : List ℕ → Type 0) (audience stayed : AudienceState)
-    (answer : Answer) (command same : CommandValue) → command ≡ same
-    → Runs same first last other before after audience stayed answer → Runs command first last other before after audience stayed answer
-runs-command first last other before after audience stayed answer command same is =
-    subst (λ c. Runs c first last other before after audience stayed answer) (sym is)
+pub runs-command : (first last : ShelfState) (out : SinkRun) (audience stayed : AudienceState) (answer : Answer)
+    (command same : CommandValue) → command ≡ same
+    → Runs same first last out audience stayed answer → Runs command first last out audience stayed answer
+runs-command first last out audience stayed answer command same is =
+    subst (λ c. Runs c first last out audience stayed answer) (sym is)
 
 -- a run of the command that words are, or their refusal
-abbrev pub RunsWords : Option CommandValue → (first last : ShelfState) → Type 0 → (before after : List ℕ → Type 0)
-    → (seeing stayed : AudienceState) → Answer → Type 0
-RunsWords command first last other before after seeing stayed answer =
-    MatchOption command (Refuses first last before after seeing stayed answer)
-    (λ c. Runs c first last other before after seeing stayed answer)
+abbrev pub RunsWords : Option CommandValue → (first last : ShelfState) → SinkRun → (seeing stayed : AudienceState) → Answer → Type 0
+RunsWords command first last out seeing stayed answer =
+    MatchOption command (Refuses first last out seeing stayed answer) (λ c. Runs c first last out seeing stayed answer)
 
 -- and of the words that give it
-pub runs-words : (first last : ShelfState) (other : Type 0) (before after : List ℕ → Type 0) (audience stayed : AudienceState)
-    (answer : Answer) (command : Option CommandValue) (read : Option CommandValue) → command ≡ read
-    → RunsWords read first last other before after audience stayed answer
-    → RunsWords command first last other before after audience stayed answer
-runs-words first last other before after audience stayed answer command read is =
-    subst (λ c. RunsWords c first last other before after audience stayed answer) (sym is)
+pub runs-words : (first last : ShelfState) (out : SinkRun) (audience stayed : AudienceState) (answer : Answer)
+    (command : Option CommandValue) (read : Option CommandValue) → command ≡ read
+    → RunsWords read first last out audience stayed answer → RunsWords command first last out audience stayed answer
+runs-words first last out audience stayed answer command read is =
+    subst (λ c. RunsWords c first last out audience stayed answer) (sym is)
 
 -- words that are no command are refused, and nothing else happens
-pub refuses : (shelf : ShelfState) (before : List ℕ → Type 0) (audience : AudienceState)
-    → Refuses shelf shelf before before audience audience BadWords
-refuses shelf before audience = record { is = refl; shelf = refl; wrote = grew-none before; left = refl }
-
--- what holds at Ok holds where the cause of an error doesn't
-pub whole-unless : {X E : Type 0} (r : Result X E) {P Q : Type 0} → OnOk r P → OnErr r Q → ¬ Q → P
-whole-unless (Ok x) p q calm = p
-whole-unless (Err e) p q calm = absurd (calm q)
+pub refuses : (shelf : ShelfState) (before : List ℕ → Type 0) (m n : ℕ) (audience : AudienceState)
+    → Refuses shelf shelf (unwritten before m n) audience audience BadWords
+refuses shelf before m n audience = record { is = refl; shelf = refl; wrote = grew-none before; left = refl }

@@ -1,5 +1,6 @@
 mod Concluding
 mod Helping
 mod Joining
+mod Plain
 mod OnWorkers
 mod ThroughBuffer

@@ -62,13 +62,11 @@ is_showing Salvage c = c.options.reports
 is_showing other c = false
 
 -- the outcome of a command, if these are the bytes under each name
-abbrev pub outcome_by : CommandWord → CommandValue → (List ℕ → List ℕ) → AudienceState
-    → Outcome
+abbrev pub outcome_by : CommandWord → CommandValue → (List ℕ → List ℕ) → AudienceState → Outcome
 outcome_by Demo c holds audience = demo_outcome (holds (name_at 0 c))
 outcome_by Record c holds audience =
     record_outcome c.options.strict (holds (name_at 0 c)) (holds (name_at 1 c)) c.options.seed
-outcome_by Show c holds audience =
-    show_outcome (part_of c.options) audience (holds (name_at 0 c))
+outcome_by Show c holds audience = show_outcome (part_of c.options) audience (holds (name_at 0 c))
 outcome_by Needs c holds audience = needs_outcome c.options.strict (holds (name_at 0 c))
 outcome_by Sim c holds audience = sim_outcome audience (number_in c)
 outcome_by Replay c holds audience = replay_outcome (holds (name_at 0 c))

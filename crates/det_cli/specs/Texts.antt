@@ -11,22 +11,22 @@ use Rattle.det_cli.specs.declared.pages.TheConstants.{REPLAY, CHECK, UPGRADE, CO
 use Rattle.det_cli.specs.declared.pages.TheConstants.{SALVAGE, CHAIN}
 
 -- the page of a command; `--help` and `--version` have none
-abbrev pub page_of : CommandWord → Option (List ℕ)
-page_of Demo = Some DEMO.now
-page_of Record = Some RECORD.now
-page_of Show = Some SHOW.now
-page_of Needs = Some NEEDS.now
-page_of Sim = Some SIM.now
-page_of Replay = Some REPLAY.now
-page_of Check = Some CHECK.now
-page_of Upgrade = Some UPGRADE.now
-page_of Compare = Some COMPARE.now
-page_of Vote = Some VOTE.now
-page_of Salvage = Some SALVAGE.now
-page_of Chain = Some CHAIN.now
-page_of other = None
+abbrev pub command_page : CommandWord → Option (List ℕ)
+command_page Demo = Some DEMO.now
+command_page Record = Some RECORD.now
+command_page Show = Some SHOW.now
+command_page Needs = Some NEEDS.now
+command_page Sim = Some SIM.now
+command_page Replay = Some REPLAY.now
+command_page Check = Some CHECK.now
+command_page Upgrade = Some UPGRADE.now
+command_page Compare = Some COMPARE.now
+command_page Vote = Some VOTE.now
+command_page Salvage = Some SALVAGE.now
+command_page Chain = Some CHAIN.now
+command_page other = None
 
 -- the text that `--help` prints: the usage, or the page of the named command
 abbrev pub help_text : (names : List (List ℕ)) → Option (List ℕ)
 help_text [] = Some USAGE.now
-help_text (name ∷ rest) = option_and_then page_of (command_word name)
+help_text (name ∷ rest) = option_and_then command_page (command_word name)

@@ -1,6 +1,6 @@
 //! `top`, which runs the command that the arguments name.
 ghost use Rattle.std.specs.Prelude.{◌≡◌, true, map, option_map, MatchOption};
-ghost use Rattle.det_io.specs.Count.{Rose};
+ghost use Rattle.det_io.specs.Traffic.{sink_run};
 ghost use Rattle.cli_answers.specs.Ends.{can_end, reads_nothing};
 ghost use Rattle.cli_answers.specs.Outcome.{Meets, text_outcome};
 ghost use Rattle.cli_words.specs.Names.{texts};
@@ -9,16 +9,16 @@ ghost use Rattle.cli_words.specs.Reading.{command_of};
 ghost use Rattle.cli_words.specs.Ranges.{IsInRange};
 ghost use Rattle.probes.specs.Reports.{AudienceState};
 ghost use Rattle.probes.specs.Shows.{seen};
-ghost use Rattle.det_cli.specs.Texts.{page_of, help_text};
+ghost use Rattle.det_cli.specs.Texts.{command_page, help_text};
 ghost use Rattle.det_cli.specs.Promise.{Runs, Refuses, IsPromised};
 
 use crate::det_usage::{USAGE, VERSION};
 use crate::pages::{
     CHAIN, CHECK, COMPARE, DEMO, NEEDS, RECORD, REPLAY, SALVAGE, SHOW, SIM, UPGRADE, VOTE,
 };
-use crate::record_commands::{workers_of, write_gathered};
-use cli_answers::{Answer, Status};
-use cli_words::laws::range_law;
+use crate::record_commands::{dispatch_gathered, workers_by_option};
+use cli_answers::{Answer, Status, write_line};
+use cli_words::laws::option_range_law;
 use cli_words::{Command, CommandWord, Options, read_words};
 use cmd_records::compare_command::compare;
 use cmd_records::salvage_command::{salvage, salvage_reports};
@@ -56,18 +56,17 @@ where
     R: Threads,
     G: Gate + Send + Sync + 'static,
     ensures { IsPromised (texts words.now) (S.sees shelf.old) (S.sees shelf.new)
-        (Rose (K.faults out.old) (K.faults out.new)) (K.took out.old) (K.took out.new)
-        (Rose (E.faults err.old) (E.faults err.new)) (E.took err.old) (E.took err.new)
+        (sink_run K.took K.faults out.old out.new)
+        (sink_run E.took E.faults err.old err.new)
         (seen (λ b. life (b.vtable, b.value)) audience.old)
         (seen (λ b. life (b.vtable, b.value)) audience.new) result }
 {
-    let answer = run(host, words, shelf, out, audience);
-    let line = answer.line();
-    let _ = write_all(err, line.as_slice());
+    let answer = dispatch_words(host, words, shelf, out, audience);
+    write_line(&answer.line(), err);
     answer.status()
 }
 
-fn run<S, K, R, G>(
+fn dispatch_words<S, K, R, G>(
     host: &Host<'_, R, G>,
     words: &[String],
     shelf: &mut S,
@@ -80,22 +79,23 @@ where
     R: Threads,
     G: Gate + Send + Sync + 'static,
     ensures { MatchOption (command_of (texts words.now))
-        (Refuses (S.sees shelf.old) (S.sees shelf.new) (K.took out.old) (K.took out.new)
+        (Refuses (S.sees shelf.old) (S.sees shelf.new)
+        (sink_run K.took K.faults out.old out.new)
         (seen (λ b. life (b.vtable, b.value)) audience.old)
         (seen (λ b. life (b.vtable, b.value)) audience.new) result)
         (λ c. Runs c (S.sees shelf.old) (S.sees shelf.new)
-        (Rose (K.faults out.old) (K.faults out.new)) (K.took out.old) (K.took out.new)
+        (sink_run K.took K.faults out.old out.new)
         (seen (λ b. life (b.vtable, b.value)) audience.old)
         (seen (λ b. life (b.vtable, b.value)) audience.new) result) }
 {
-    range_law();
+    option_range_law();
     match read_words(words) {
-        Some(command) => run_command(host, command, shelf, out, audience),
+        Some(command) => dispatch_command(host, command, shelf, out, audience),
         None => Answer::BadWords,
     }
 }
 
-fn run_command<S, K, R, G>(
+fn dispatch_command<S, K, R, G>(
     host: &Host<'_, R, G>,
     command: Command<'_>,
     shelf: &mut S,
@@ -109,7 +109,7 @@ where
     G: Gate + Send + Sync + 'static,
     requires range { IsInRange (command_value command) }
     ensures { Runs (command_value command.entry) (S.sees shelf.old) (S.sees shelf.new)
-        (Rose (K.faults out.old) (K.faults out.new)) (K.took out.old) (K.took out.new)
+        (sink_run K.took K.faults out.old out.new)
         (seen (λ b. life (b.vtable, b.value)) audience.old)
         (seen (λ b. life (b.vtable, b.value)) audience.new) result }
 {
@@ -125,16 +125,21 @@ where
         | CommandWord::Record
         | CommandWord::Replay
         | CommandWord::Upgrade
-        | CommandWord::Chain => write_gathered(host, &command, shelf, out),
+        | CommandWord::Chain => dispatch_gathered(host, &command, shelf, out),
         CommandWord::Show => show(alloc, first, command.options.part(), shelf, out, audience),
         CommandWord::Needs => needs(alloc, first, strict, shelf, out),
-        CommandWord::Sim => sim(&workers_of(host, workers), command.number(), out, audience),
+        CommandWord::Sim => sim(
+            &workers_by_option(host, workers),
+            command.number(),
+            out,
+            audience,
+        ),
         CommandWord::Help => match help_text(command.names.as_slice()) {
-            Some(text) => print(text, out),
+            Some(text) => print_page(text, out),
             // Each name that help takes is the word of a command with a page.
             None => unreachable!(),
         },
-        CommandWord::Version => print(VERSION, out),
+        CommandWord::Version => print_page(VERSION, out),
         CommandWord::Compare => compare(alloc, command.names.as_slice(), shelf, out),
         CommandWord::Salvage => {
             if command.options.reports {
@@ -142,13 +147,19 @@ where
             }
             salvage(alloc, first, shelf, out)
         }
-        CommandWord::Check => check(&workers_of(host, workers), first, shelf, out, audience),
-        CommandWord::Vote => run_vote(alloc, &command, shelf, out),
+        CommandWord::Check => check(
+            &workers_by_option(host, workers),
+            first,
+            shelf,
+            out,
+            audience,
+        ),
+        CommandWord::Vote => dispatch_vote(alloc, &command, shelf, out),
     }
 }
 
 /// Writes the majority's record of the named copies, or prints which copies dissent from it.
-fn run_vote<S: Shelf, K: Sink>(
+fn dispatch_vote<S: Shelf, K: Sink>(
     alloc: Global,
     command: &Command<'_>,
     shelf: &mut S,
@@ -157,8 +168,8 @@ fn run_vote<S: Shelf, K: Sink>(
     requires range { IsInRange (command_value command.now) }
     requires word { command.now.word ≡ CommandWord.Vote }
     ensures { (audience : AudienceState) → Runs (command_value command.now)
-        (S.sees shelf.old) (S.sees shelf.new) (Rose (K.faults out.old) (K.faults out.new))
-        (K.took out.old) (K.took out.new) audience audience result }
+        (S.sees shelf.old) (S.sees shelf.new)
+        (sink_run K.took K.faults out.old out.new) audience audience result }
 {
     let copies = command.names.as_slice();
     if command.options.dissent {
@@ -168,8 +179,8 @@ fn run_vote<S: Shelf, K: Sink>(
 }
 
 /// The page of a command. `--help` and `--version` have none.
-fn page_of(word: CommandWord) -> Option<&'static str>
-    ensures { option_map (λ text. text.now) result ≡ page_of word }
+fn command_page(word: CommandWord) -> Option<&'static str>
+    ensures { option_map (λ text. text.now) result ≡ command_page word }
 {
     match word {
         CommandWord::Demo => Some(DEMO),
@@ -195,14 +206,14 @@ pub(crate) fn help_text(names: &[&str]) -> Option<&'static str>
 {
     match names {
         [] => Some(USAGE),
-        [name, ..] => page_of(CommandWord::from_word(name)?),
+        [name, ..] => command_page(CommandWord::from_word(name)?),
     }
 }
 
 /// Writes a text.
-fn print<K: Sink>(text: &str, out: &mut K) -> Answer
+fn print_page<K: Sink>(text: &str, out: &mut K) -> Answer
     ensures meets { Meets (text_outcome text.now) (Unit {0}) ⊥
-        (Rose (K.faults out.old) (K.faults out.new)) (K.took out.old) (K.took out.new) result }
+        (sink_run K.took K.faults out.old out.new) result }
     ensures ends { can_end reads_nothing result ≡ true }
 {
     match write_all(out, text.as_bytes()) {

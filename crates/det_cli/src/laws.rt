@@ -1,8 +1,8 @@
 //! Laws about the promise of `top`. Each is a function that computes nothing, and its contract is
 //! the law.
 ghost use Rattle.std.specs.Prelude.{◌≡◌, ℕ, Bool, List, Option};
-ghost use Rattle.det_io.specs.Count.{Rose};
 ghost use Rattle.det_io.specs.Shelf.{ShelfState};
+ghost use Rattle.det_io.specs.Traffic.{sink_run};
 ghost use Rattle.probes.specs.Reports.{AudienceState};
 ghost use Rattle.cli_answers.specs.declared.status.Status.{Status};
 ghost use Rattle.cli_words.specs.Command.{CommandValue};
@@ -14,15 +14,12 @@ ghost use Rattle.det_cli.specs.Promise.{IsPromised};
 use det_io::Sink;
 
 /// What a user may conclude from the exit status of a run that keeps the promise of `top`.
-pub fn status_law<K: Sink, E: Sink>()
+pub fn exit_status_law<K: Sink, E: Sink>()
     ensures { (words : List (List ℕ)) (first last : ShelfState) (out out_after : K)
         (err err_after : E) (seeing stayed : AudienceState) (status : Status)
-        → IsPromised words first last
-        (Rose (K.faults out) (K.faults out_after)) (K.took out) (K.took out_after)
-        (Rose (E.faults err) (E.faults err_after)) (E.took err) (E.took err_after)
-        seeing stayed status
-        → Concludes words first last (Rose (K.faults out) (K.faults out_after))
-        (K.took out) (K.took out_after) seeing status }
+        → IsPromised words first last (sink_run K.took K.faults out out_after)
+        (sink_run E.took E.faults err err_after) seeing stayed status
+        → Concludes words first last (sink_run K.took K.faults out out_after) seeing status }
 {}
 
 /// The number of workers changes no outcome.

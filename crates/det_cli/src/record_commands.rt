@@ -2,14 +2,13 @@
 //! frames into long writes.
 ghost use Rattle.std.specs.Prelude.{◌≡◌, ◌≤◌, [], true, IfSome};
 ghost use Rattle.std.specs.Option.{unwrap_or};
-ghost use Rattle.det_io.specs.Count.{Rose};
-ghost use Rattle.det_io.specs.sink_buffer.Front.{TakesFront};
+ghost use Rattle.det_io.specs.Traffic.{sink_run};
 ghost use Rattle.manifest.specs.Limits.{IsWorkers};
 ghost use Rattle.cli_words.specs.Command.{command_value};
 ghost use Rattle.cli_words.specs.Ranges.{IsInRange};
 ghost use Rattle.probes.specs.Reports.{AudienceState};
 ghost use Rattle.det_cli.specs.Promise.{Runs};
-ghost use Rattle.det_cli.specs.Records.{writes_record};
+ghost use Rattle.det_cli.specs.Records.{writes_record, front_run};
 
 use cli_answers::Answer;
 use cli_words::{Command, CommandWord, Options};
@@ -29,7 +28,7 @@ use worker_pool::Gate;
 /// fault. After a write that failed during the run, what is held is tried once more; the answer
 /// stays a write fault. `show` and reports aren't gathered, since no probe may see a run whose
 /// lines weren't taken.
-pub(crate) fn write_gathered<S, K, R, G>(
+pub(crate) fn dispatch_gathered<S, K, R, G>(
     host: &Host<'_, R, G>,
     command: &Command<'_>,
     shelf: &mut S,
@@ -43,14 +42,14 @@ where
     requires range { IsInRange (command_value command.now) }
     requires word { writes_record command.now.word ≡ true }
     ensures { (audience : AudienceState) → Runs (command_value command.now)
-        (S.sees shelf.old) (S.sees shelf.new) (Rose (K.faults out.old) (K.faults out.new))
-        (K.took out.old) (K.took out.new) audience audience result }
+        (S.sees shelf.old) (S.sees shelf.new)
+        (sink_run K.took K.faults out.old out.new) audience audience result }
 {
     let Ok(mut room) = buffer_room(host.alloc) else {
         return Answer::OutOfMemory;
     };
     let front = Front::new(out, &mut room);
-    let (answer, sink, held) = gather_front(host, command, shelf, front);
+    let (answer, sink, held) = dispatch_to_front(host, command, shelf, front);
     match write_all(sink, held.as_slice()) {
         Ok(()) => answer,
         Err(_) => Answer::WriteFault,
@@ -58,7 +57,7 @@ where
 }
 
 /// Runs the command over a front of the sink. Returns the sink with the bytes that are still held.
-fn gather_front<'a, 'r, S, K, R, G>(
+fn dispatch_to_front<'a, 'r, S, K, R, G>(
     host: &Host<'_, R, G>,
     command: &Command<'_>,
     shelf: &mut S,
@@ -75,20 +74,20 @@ where
     ensures counted { K.faults front.entry.sink.now ≤ K.faults result.1.now }
     ensures runs { (audience : AudienceState) → Runs (command_value command.now)
         (S.sees shelf.old) (S.sees shelf.new)
-        (Rose (K.faults front.entry.sink.now) (K.faults result.1.now))
-        (λ bytes. TakesFront (K.took front.entry.sink.now) (K.took front.entry.sink.now) bytes
-        front.entry.held.now.items)
-        (λ bytes. TakesFront (K.took front.entry.sink.now) (K.took result.1.now) bytes
-        result.2.now.items)
+        (front_run (K.took front.entry.sink.now) (K.took front.entry.sink.now)
+        (K.took result.1.now) front.entry.held.now.items result.2.now.items
+        (K.faults front.entry.sink.now) (K.faults result.1.now))
         audience audience result.0 }
 {
-    let (answer, front) = gather::<Front<'a, 'r, K>, Brand, S, R, G>(host, command, shelf, front);
+    let (answer, front) = dispatch_to_gatherer::<Front<'a, 'r, K>, Brand, S, R, G>(
+        host, command, shelf, front,
+    );
     let Front { sink, held } = front;
     (answer, sink, held)
 }
 
 /// Runs the command over anything that gathers, and returns that.
-fn gather<P, B, S, R, G>(
+fn dispatch_to_gatherer<P, B, S, R, G>(
     host: &Host<'_, R, G>,
     command: &Command<'_>,
     shelf: &mut S,
@@ -107,18 +106,17 @@ where
     ensures same_sink { P.name result.1 ≡ P.name front }
     ensures counted { P.faults front ≤ P.faults result.1 }
     ensures runs { (audience : AudienceState) → Runs (command_value command.now)
-        (S.sees shelf.old) (S.sees shelf.new) (Rose (P.faults front) (P.faults result.1))
-        (λ bytes. TakesFront B.took (P.took front) bytes (P.held front))
-        (λ bytes. TakesFront B.took (P.took result.1) bytes (P.held result.1))
-        audience audience result.0 }
+        (S.sees shelf.old) (S.sees shelf.new)
+        (front_run B.took (P.took front) (P.took result.1) (P.held front) (P.held result.1)
+        (P.faults front) (P.faults result.1)) audience audience result.0 }
 {
     let mut buffer = SinkBuffer::<P, B>::new(front);
-    let answer = write_record(host, command, shelf, &mut buffer);
+    let answer = dispatch_record_command(host, command, shelf, &mut buffer);
     (answer, buffer.into_front())
 }
 
 /// Runs the command over a sink.
-fn write_record<S, K, R, G>(
+fn dispatch_record_command<S, K, R, G>(
     host: &Host<'_, R, G>,
     command: &Command<'_>,
     shelf: &mut S,
@@ -132,8 +130,8 @@ where
     requires range { IsInRange (command_value command.now) }
     requires word { writes_record command.now.word ≡ true }
     ensures { (audience : AudienceState) → Runs (command_value command.now)
-        (S.sees shelf.old) (S.sees shelf.new) (Rose (K.faults out.old) (K.faults out.new))
-        (K.took out.old) (K.took out.new) audience audience result }
+        (S.sees shelf.old) (S.sees shelf.new)
+        (sink_run K.took K.faults out.old out.new) audience audience result }
 {
     let first = command.name(0);
     let second = command.name(1);
@@ -155,16 +153,16 @@ where
             };
             record_by_manifest(host, &task, shelf, out)
         }
-        CommandWord::Replay => replay(&workers_of(host, workers), first, shelf, out),
-        CommandWord::Upgrade => upgrade(&workers_of(host, workers), first, shelf, out),
-        CommandWord::Chain => run_chain(host, command, shelf, out),
+        CommandWord::Replay => replay(&workers_by_option(host, workers), first, shelf, out),
+        CommandWord::Upgrade => upgrade(&workers_by_option(host, workers), first, shelf, out),
+        CommandWord::Chain => dispatch_chain(host, command, shelf, out),
         // The other commands don't write the record of a run.
         _ => unreachable!(),
     }
 }
 
 /// Runs `chain`, which writes the record of the second client.
-fn run_chain<S, K, R, G>(
+fn dispatch_chain<S, K, R, G>(
     host: &Host<'_, R, G>,
     command: &Command<'_>,
     shelf: &mut S,
@@ -178,8 +176,8 @@ where
     requires range { IsInRange (command_value command.now) }
     requires word { command.now.word ≡ CommandWord.Chain }
     ensures { (audience : AudienceState) → Runs (command_value command.now)
-        (S.sees shelf.old) (S.sees shelf.new) (Rose (K.faults out.old) (K.faults out.new))
-        (K.took out.old) (K.took out.new) audience audience result }
+        (S.sees shelf.old) (S.sees shelf.new)
+        (sink_run K.took K.faults out.old out.new) audience audience result }
 {
     let Options {
         workers,
@@ -199,7 +197,10 @@ where
 }
 
 /// The workers of a command whose number is given or else 1.
-pub(crate) fn workers_of<'h, R, G>(host: &Host<'h, R, G>, given: Option<u32>) -> Workers<'h, R, G>
+pub(crate) fn workers_by_option<'h, R, G>(
+    host: &Host<'h, R, G>,
+    given: Option<u32>,
+) -> Workers<'h, R, G>
     requires { IfSome given IsWorkers }
     ensures { result.count ≡ unwrap_or given 1 }
 {

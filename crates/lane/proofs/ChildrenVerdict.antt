@@ -10,7 +10,7 @@ use Rattle.det_io.specs.Traffic.{failure_in}
 use Rattle.det_io.specs.declared.failure.Failure.TheVariants as failures
 use Rattle.det_io.specs.declared.failure.Stopped.{Stopped}
 use Rattle.det_io.specs.declared.failure.Stopped.TheVariants.{Refused, Failed}
-use Rattle.det_io.proofs.Counts.{rose-before, rose-after}
+use Rattle.det_io.proofs.Counts.{rose-before}
 use Rattle.record_grammar.specs.declared.record_fault.Reason.{Reason}
 use Rattle.record_grammar.specs.declared.record_fault.Reason.TheVariants.{Truncated}
 use Rattle.copies.specs.declared.verdict.BadCopy.{BadCopy}
@@ -26,10 +26,10 @@ use Rattle.lane.specs.Answers.{failed}
 use Rattle.lane.specs.Children.{AsksPrefix, AllFinished, HasAll, StatusesAre}
 use Rattle.lane.specs.VerdictOrAnswer.{failure_among, known_statuses, unless, refused_by, verdict_or_answer}
 use Rattle.lane.specs.Outcome.{outcome_with, first_failed, agreed, broken_off, bad_by, lane_by, outputs, statuses_of, lane_outcome}
-use Rattle.lane.specs.Outcome.{KnowsChildren}
-use Rattle.lane.specs.Watched.{found_by, Watched}
+use Rattle.lane.specs.Outcome.{KnowsChildren, StatusCounts}
+use Rattle.lane.specs.Watched.{found_outcome, Watched}
 use Rattle.lane.specs.Words.{LaneValue, child_words, words_from, words_of_all}
-use Rattle.lane.proofs.Asking.{is_known-at}
+use Rattle.lane.proofs.Asking.{is_known-at, words-long}
 use Rattle.lane.proofs.Statuses.{known_statuses-are, unknown-one, child-failed, found-unless}
 use Rattle.lane.proofs.Slots.{slots_from, all-end, copy-ends}
 
@@ -165,7 +165,7 @@ module _ {first mid late : SpawnerState} (lane : LaneValue) (ends : List (Option
 
   found-agreed : (cycles : ℕ) → KnowsChildren first (words_of_all lane) → ((k : ℕ) → k < lane.copies → IsAtEnd (shelf_state late) k)
       → (all : Option (List ℕ)) → known_statuses (take lane.copies ends) ≡ all
-      → (unless (failure_among all) (Agree cycles) ≡ Err SpawnFault) ⊎ (found_by (unless (failure_among all) (Agree cycles))
+      → (unless (failure_among all) (Agree cycles) ≡ Err SpawnFault) ⊎ (found_outcome (unless (failure_among all) (Agree cycles))
       ≡ agreed (first_failed 0 (statuses_of first (words_of_all lane))) cycles)
   found-agreed cycles t end None is = inl refl
   found-agreed cycles t end (Some all) is =
@@ -180,7 +180,7 @@ module _ {first mid late : SpawnerState} (lane : LaneValue) (ends : List (Option
   -- what is found and what is known of an end
   abbrev Told : Result Verdict (Stopped BadCopy) → Type 0
   Told r = (verdict_or_answer r (take lane.copies ends) ≡ Err SpawnFault) ⊎ ((verdict_or_answer r (take lane.copies ends) ≡ Err OutOfMemory)
-      ⊎ (found_by (verdict_or_answer r (take lane.copies ends)) ≡ lane_outcome first lane))
+      ⊎ (found_outcome (verdict_or_answer r (take lane.copies ends)) ≡ lane_outcome first lane))
 
   abbrev IsCompared : Result Verdict (Stopped BadCopy) → Type 0
   IsCompared r = Compared r (shelf_state mid) (shelf_state late) (slots_from 0 lane.copies)
@@ -223,6 +223,11 @@ module _ {first mid late : SpawnerState} (lane : LaneValue) (ends : List (Option
   found-told (Err (Failed failures.OutOfMemory)) c no_write t = inr (inl refl)
   found-told (Err (Failed failures.Write)) c no_write t = absurd (no_write refl)
 
+  -- the exit status of a child counts, by the verdict
+  counts-by : (v : Result Verdict BadCopy) (child : ℕ) → verdict (outputs first (words_of_all lane)) ≡ v → StatusCounts v child
+      → StatusCounts (verdict (outputs first (words_of_all lane))) child
+  counts-by v child is counts = subst (λ (w : Result Verdict BadCopy). StatusCounts w child) (sym is) counts
+
   -- a spawn fault is reported only if reading failed or an exit status isn't known
   unless-cause : (all : Option (List ℕ)) (cycles : ℕ) → unless (failure_among all) (Agree cycles) ≡ Err SpawnFault → all ≡ None
   unless-cause None cycles e = refl
@@ -233,15 +238,23 @@ module _ {first mid late : SpawnerState} (lane : LaneValue) (ends : List (Option
       by (Some a) is e = let failed = child-failed 0 all a is in let other = failed.2 in absurd cc
 
   fault-cause : (r : Result Verdict (Stopped BadCopy)) → IsCompared r → verdict_or_answer r (take lane.copies ends) ≡ Err SpawnFault
-      → (failure_in r ≡ Some failures.Read) ⊎ ((j : ℕ) × (j < lane.copies) × (get_or ends j None ≡ None))
-  fault-cause (Ok (Agree cycles)) c e = inr (unknown-one lane.copies ends h.long (unless-cause (known_statuses (take lane.copies ends))
-      cycles e))
+      → (failure_in r ≡ Some failures.Read) ⊎ ((j : ℕ) × (j < lane.copies) × (get_or ends j None ≡ None)
+      × (KnowsChildren first (words_of_all lane) → StatusCounts (verdict (outputs first (words_of_all lane))) j))
+  fault-cause (Ok (Agree cycles)) c e =
+      let one = unknown-one lane.copies ends h.long (unless-cause (known_statuses (take lane.copies ends)) cycles e) in
+      inr (one.0, one.1, one.2, λ t. counts-by (Ok (Agree cycles)) one.0 (c.is _ (are-left t)) tt)
   fault-cause (Ok (Differ copy place)) c e = absurd cc
   fault-cause (Err (Refused bad)) c e =
       let fault : refused_by bad.fault.reason bad (get_or (take lane.copies ends) bad.copy None) ≡ SpawnFault = cc in
       let cause = refused-cause bad.fault.reason bad (get_or (take lane.copies ends) bad.copy None) fault in
       let copy = copy-ends (shelf_state late) lane.copies bad.copy (c.ends cause.0) in
-      inr (bad.copy, copy.0, sym (get_or-take lane.copies ends bad.copy None copy.0) ∙ cause.1)
+      inr (
+        bad.copy,
+        copy.0,
+        sym (get_or-take lane.copies ends bad.copy None copy.0) ∙ cause.1,
+        λ t.
+            counts-by (Err bad) bad.copy (c.is _ (are-left t)) (cause.0, refl),
+      )
   fault-cause (Err (Failed failures.Read)) c e = inl refl
   fault-cause (Err (Failed failures.OutOfMemory)) c e = absurd cc
   fault-cause (Err (Failed failures.Write)) c e = absurd cc
@@ -270,24 +283,29 @@ verdict_or_answer-quiet (Err (Failed failures.Write)) statuses answer no_write e
 pub record Rises (first mid late last : SpawnerState) : Type 0 where
   pub started : first.faults ≤ mid.faults
   pub compared : mid.faults ≤ late.faults
-  pub finished : late.faults ≤ last.faults
+  pub finished : last.faults ≡ late.faults
 
 -- children that were compared and finished
 pub watched : {first mid late last : SpawnerState} (lane : LaneValue) (ends : List (Option ℕ)) (r : Result Verdict (Stopped BadCopy))
     → Observed first mid late lane ends → Compared r (shelf_state mid) (shelf_state late) (slots_from 0 lane.copies)
     → (failure_in r ≡ Some failures.Write → ⊥) → (failure_in r ≡ Some failures.Read → Rose mid.faults late.faults)
-    → ((k : ℕ) → k < lane.copies → get_or ends k None ≡ None → Rose late.faults last.faults)
+    → ((k : ℕ) → k < lane.copies → get_or ends k None ≡ None → last.lost k ≡ true)
     → Rises first mid late last → AsksPrefix first last (words_of_all lane) → last.children ≤ lane.copies → AllFinished last
     → Watched first last lane (verdict_or_answer r (take lane.copies ends))
 watched {first = first} {mid = mid} {late = late} {last = last} lane ends r h c no_write read unknown rises asked few finished = record {
-  told = λ t. found-told lane ends h r c no_write t;
-  cause = λ e. elim (fault-cause lane ends h r c e) [
-    | inl failed ↦ rose-before first.faults mid.faults last.faults rises.started
-        (rose-after mid.faults late.faults last.faults (read failed) rises.finished)
-    | inr one ↦ rose-before first.faults late.faults last.faults (let a = rises.started in let b = rises.compared in omega arith)
-        (unknown one.0 one.1 one.2)
-  ];
-  writes_nothing = λ e. verdict_or_answer-quiet r (take lane.copies ends) WriteFault no_write e (inl refl);
+  found = record {
+    finds = λ t. found-told lane ends h r c no_write t;
+    read_fault = λ e. elim (fault-cause lane ends h r c e) [
+      | inl failed ↦ inl (rw rises.finished (rose-before first.faults mid.faults late.faults rises.started (read failed)))
+      | inr one ↦ inr (record {
+        child = one.0;
+        is_copy = (let long = words-long lane 0 lane.copies in omega (arith, long, one.1));
+        is_lost = unknown one.0 one.1 one.2;
+        counts = one.3;
+      })
+    ];
+    writes_nothing = λ e. verdict_or_answer-quiet r (take lane.copies ends) WriteFault no_write e (inl refl);
+  };
   words = λ e. verdict_or_answer-quiet r (take lane.copies ends) BadWords no_write e (inr refl);
   asked = asked;
   children = few;

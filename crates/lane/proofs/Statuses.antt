@@ -9,7 +9,7 @@ use Rattle.lane.specs.declared.lane_answer.LaneAnswer.{LaneAnswer}
 use Rattle.lane.specs.declared.lane_answer.LaneAnswer.TheVariants.{ChildFailed, SpawnFault}
 use Rattle.lane.specs.VerdictOrAnswer.{failure_of, known_statuses, unless}
 use Rattle.lane.specs.Outcome.{first_failed, agreed}
-use Rattle.lane.specs.Watched.{found_by}
+use Rattle.lane.specs.Watched.{found_outcome}
 
 -- ---- the loop over the statuses
 
@@ -111,6 +111,6 @@ child-failed child (status ∷ more) answer e = by (nat_eq status 0) e (child-fa
     by false e later = (child, status, cc)
 
 -- copies agree, or the first child that failed is reported
-pub found-unless : (failure : Option LaneAnswer) (cycles : ℕ) → found_by (unless failure (Agree cycles)) ≡ agreed failure cycles
+pub found-unless : (failure : Option LaneAnswer) (cycles : ℕ) → found_outcome (unless failure (Agree cycles)) ≡ agreed failure cycles
 found-unless None cycles = refl
 found-unless (Some a) cycles = refl

@@ -17,7 +17,7 @@ pub struct Lane<'a> {
     ghost few: { copies ≤ 8 },
 }
 
-fn strings(alloc: Global, texts: &[&str]) -> Result<Vec<String>, AllocError>
+fn copy_words(alloc: Global, texts: &[&str]) -> Result<Vec<String>, AllocError>
     ensures { IfOk result (λ words. words_of words.items ≡ map (λ text. text.now) texts.now) }
 {
     let mut words = Vec::with_capacity(alloc, texts.len())?;
@@ -50,6 +50,6 @@ impl<'a> Lane<'a> {
             "--workers",
             workers,
         ];
-        strings(alloc, &texts)
+        copy_words(alloc, &texts)
     }
 }

@@ -1,12 +1,12 @@
 //! `lane_top`, which runs the command that the arguments name.
-ghost use Rattle.std.specs.Prelude.{◌≡◌, true, Err};
-ghost use Rattle.det_io.specs.Count.{Rose};
+ghost use Rattle.std.specs.Prelude.{◌≡◌, ◌≢◌, true, Err};
+ghost use Rattle.det_io.specs.Traffic.{sink_run};
 ghost use Rattle.cli_words.specs.Names.{texts};
 ghost use Rattle.cli_answers.specs.Outcome.{MeetsBy};
 ghost use Rattle.lane.specs.Answers.{failed, has_text};
-ghost use Rattle.lane.specs.Outcome.{outcome_with};
+ghost use Rattle.lane.specs.Outcome.{answer_to, outcome_with};
 ghost use Rattle.lane.specs.Promise.{IsPromised, Runs};
-ghost use Rattle.lane.specs.Watched.{answer_to, found_by, Watched};
+ghost use Rattle.lane.specs.Watched.{found_outcome, Watched};
 ghost use Rattle.lane.specs.Words.{command_of, lane_value};
 
 use crate::child_processes::{ChildShelf, Spawner};
@@ -17,6 +17,7 @@ use crate::lane_status::LaneStatus;
 use crate::lane_usage::text_of;
 use crate::started_children::{finish_all, start_all};
 use crate::verdict_or_answer::verdict_or_answer;
+use cli_answers::write_line;
 use copies::verdict_text::verdict_line;
 use copies::{Verdict, compare};
 use det_io::{Sink, write_all};
@@ -46,17 +47,15 @@ pub fn lane_top<P: Spawner, K: Sink, E: Sink>(
 ) -> LaneStatus
     requires { (P.sees children.old.spawner).children ≡ 0 }
     ensures { IsPromised (texts words.now) (P.sees children.old.spawner)
-        (P.sees children.new.spawner) (Rose (K.faults out.old) (K.faults out.new))
-        (K.took out.old) (K.took out.new) (Rose (E.faults err.old) (E.faults err.new))
-        (E.took err.old) (E.took err.new) result }
+        (P.sees children.new.spawner) (sink_run K.took K.faults out.old out.new)
+        (sink_run E.took E.faults err.old err.new) result }
 {
-    let answer = run(alloc, words, children, out);
-    let line = answer.line();
-    let _ = write_all(err, line.as_slice());
+    let answer = run_command(alloc, words, children, out);
+    write_line(&answer.line(), err);
     answer.status()
 }
 
-fn run<P: Spawner, K: Sink>(
+fn run_command<P: Spawner, K: Sink>(
     alloc: Global,
     words: &[String],
     children: &mut ChildShelf<P>,
@@ -64,14 +63,17 @@ fn run<P: Spawner, K: Sink>(
 ) -> LaneAnswer
     requires { (P.sees children.old.spawner).children ≡ 0 }
     ensures { Runs (command_of (texts words.now)) (P.sees children.old.spawner)
-        (P.sees children.new.spawner) (Rose (K.faults out.old) (K.faults out.new))
-        (K.took out.old) (K.took out.new) result }
+        (P.sees children.new.spawner) (sink_run K.took K.faults out.old out.new) result }
 {
     match LaneCommand::from_words(words) {
-        Some(LaneCommand::Text(word)) => print(text_of(word).as_bytes(), LaneAnswer::Done, out),
+        Some(LaneCommand::Text(word)) => print_lane_text(
+            text_of(word).as_bytes(),
+            LaneAnswer::Done,
+            out,
+        ),
         Some(LaneCommand::Run(lane)) => {
             let found = compare_children(alloc, &lane, children);
-            print_verdict(alloc, found, out)
+            print_lane_verdict(alloc, found, out)
         }
         None => LaneAnswer::BadWords,
     }
@@ -98,16 +100,16 @@ fn compare_children<P: Spawner>(
 }
 
 /// Prints the line of a verdict, or returns the answer if there is no verdict.
-fn print_verdict<K: Sink>(
+fn print_lane_verdict<K: Sink>(
     alloc: Global,
     found: Result<Verdict, LaneAnswer>,
     out: &mut K,
 ) -> LaneAnswer
-    requires writes_nothing { found ≡ Err LaneAnswer.WriteFault → ⊥ }
-    requires words { found ≡ Err LaneAnswer.BadWords → ⊥ }
-    ensures meets { MeetsBy failed (found_by found) (Unit {0}) (found ≡ Err LaneAnswer.SpawnFault)
-        (Rose (K.faults out.old) (K.faults out.new)) (K.took out.old) (K.took out.new) result }
-    ensures words { result ≡ LaneAnswer.BadWords → ⊥ }
+    requires writes_nothing { found ≢ Err LaneAnswer.WriteFault }
+    requires words { found ≢ Err LaneAnswer.BadWords }
+    ensures meets { MeetsBy failed (found_outcome found) (Unit {0})
+        (found ≡ Err LaneAnswer.SpawnFault) (sink_run K.took K.faults out.old out.new) result }
+    ensures words { result ≢ LaneAnswer.BadWords }
 {
     let verdict = match found {
         Ok(verdict) => verdict,
@@ -116,7 +118,7 @@ fn print_verdict<K: Sink>(
     let Ok(line) = verdict_line(alloc, &verdict) else {
         return LaneAnswer::OutOfMemory;
     };
-    print(&line, answer_to(verdict), out)
+    print_lane_text(&line, answer_to(verdict), out)
 }
 
 fn answer_to(verdict: Verdict) -> LaneAnswer
@@ -130,11 +132,11 @@ fn answer_to(verdict: Verdict) -> LaneAnswer
 }
 
 /// Writes a text. The answer is this one if all of it was written.
-fn print<K: Sink>(text: &[u8], answer: LaneAnswer, out: &mut K) -> LaneAnswer
+fn print_lane_text<K: Sink>(text: &[u8], answer: LaneAnswer, out: &mut K) -> LaneAnswer
     requires { has_text answer ≡ true }
     ensures meets { MeetsBy failed (outcome_with answer text.now) (Unit {0}) ⊥
-        (Rose (K.faults out.old) (K.faults out.new)) (K.took out.old) (K.took out.new) result }
-    ensures words { result ≡ LaneAnswer.BadWords → ⊥ }
+        (sink_run K.took K.faults out.old out.new) result }
+    ensures words { result ≢ LaneAnswer.BadWords }
 {
     match write_all(out, text) {
         Ok(()) => answer,

@@ -1,5 +1,5 @@
 //! Starts and finishes all children of a lane.
-ghost use Rattle.std.specs.Prelude.{◌≡◌, ℕ, ◌<◌, ◌≤◌, ◌∷◌, [], None, Some, OnOk, OnErr};
+ghost use Rattle.std.specs.Prelude.{◌≡◌, ℕ, ◌<◌, ◌≤◌, ◌∷◌, [], None, Some, OnOk, OnErr, true};
 ghost use Rattle.std.specs.Prelude.{slice_index_or};
 ghost use Rattle.det_io.specs.Count.{Rose};
 ghost use Rattle.det_io.specs.Traffic.{failure_of};
@@ -27,7 +27,7 @@ pub(crate) struct Started {
 }
 
 /// Starts a child.
-fn start<P: Spawner>(
+fn start_child<P: Spawner>(
     alloc: Global,
     lane: &Lane<'_>,
     child: u32,
@@ -72,7 +72,7 @@ pub(crate) fn start_all<P: Spawner>(alloc: Global, lane: &Lane<'_>, spawner: &mu
     ensures counted { (P.sees spawner.old).faults ≤ (P.sees spawner.new).faults }
 {
     for child in 0..lane.copies {
-        if let Err(failure) = start(alloc, lane, child, spawner) {
+        if let Err(failure) = start_child(alloc, lane, child, spawner) {
             return Started {
                 count: child,
                 failure: Some(failure),
@@ -93,11 +93,11 @@ pub(crate) fn finish_all<P: Spawner>(spawner: &mut P, count: u32) -> Statuses
     ensures children { (P.sees spawner.new).children ≡ count }
     ensures finished { AllFinished (P.sees spawner.new) }
     ensures statuses { StatusesAre (P.sees spawner.old) result }
-    ensures none { (k : ℕ) → k < count → slice_index_or result k None ≡ None
-        → Rose (P.sees spawner.old).faults (P.sees spawner.new).faults }
+    ensures lost { (k : ℕ) → k < count → slice_index_or result k None ≡ None
+        → (P.sees spawner.new).lost k ≡ true }
     ensures asked { (P.sees spawner.new).asked ≡ (P.sees spawner.old).asked }
     ensures fixed { Fixed (P.sees spawner.old) (P.sees spawner.new) }
-    ensures counted { (P.sees spawner.old).faults ≤ (P.sees spawner.new).faults }
+    ensures faults { (P.sees spawner.new).faults ≡ (P.sees spawner.old).faults }
 {
     let mut statuses = [None; MOST_COPIES];
     for child in 0..count {

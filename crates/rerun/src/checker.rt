@@ -1,11 +1,12 @@
-//! Finds the first place where a record isn't what its inputs give. It writes nothing.
+//! Finds the first place where a record isn't what its inputs give, by pairs of a frame that was
+//! read and the frame that its input gives. It writes nothing.
 
 mod check;
 mod check_verdict;
 mod frame_checker;
 mod frame_pair;
 mod frame_room;
-mod rerun_frames;
+mod next_run;
 
 pub use check::check_run;
 pub use check_verdict::CheckVerdict;

@@ -25,7 +25,7 @@ use Rattle.recorder.specs.run_writer.Record.{record_with}
 use Rattle.stimulus.specs.Reading.{blocks, ending}
 use Rattle.stimulus.proofs.Counting.{few_blocks}
 use Rattle.recorder.specs.Record.{is_terminated}
-use Rattle.cmd_run.specs.chain.OutputSamples.{derived, derived_input}
+use Rattle.cmd_run.specs.chain.OutputSamples.{derived, chained_input}
 use Rattle.manifest.specs.Meaning.{manifest_of}
 use Rattle.cmd_run.specs.chain_command.Chain.{chained}
 use Rattle.cmd_run.specs.chain_command.Clients.{Client, client_of, chained_by_kinds, chained_from}
@@ -69,7 +69,7 @@ passed_on_held : {S G E L P : Type 0} (m : Meaning S G E L P) (first second : Pr
     → AreHeld (length second.events) (derived m first given (length second.events))
 passed_on_held m first second given small h =
     let few = h.few in
-    let same = length-map (runs m first given) (derived_input (length second.events))
+    let same = length-map (runs m first given) (chained_input (length second.events))
     ∙ length-runs m first [] given (first_state m first) in
     record { good = passed_held m first (length second.events) small given h.good; few = omega (arith, few, same) }
 

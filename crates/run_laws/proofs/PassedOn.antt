@@ -15,7 +15,7 @@ use Rattle.job.specs.Meaning.{Meaning}
 use Rattle.job.specs.Cycle.{State, state_after}
 use Rattle.cycle_engine.specs.Frames.{cycle_of, frame_of, runs_after_inputs, first_state}
 use Rattle.record_grammar.specs.Spelling.{IsTime, IsInput}
-use Rattle.cmd_run.specs.chain.OutputSamples.{sample_of, first_word, samples_from, samples_of, derived_input, derived}
+use Rattle.cmd_run.specs.chain.OutputSamples.{sample_of, first_word, samples_from, samples_of, chained_input, derived}
 use Rattle.cmd_run.proofs.lemmas.chain.Samples.{is_sample_value}
 use Rattle.cmd_run.proofs.lemmas.chain.Samples.{known-samples, few-samples}
 use Rattle.run_laws.proofs.Parameters.{below}
@@ -71,7 +71,7 @@ samples_few events (Finished elements output) = few_from 0 events output
 samples_few events (Refused at) = omega arith
 
 -- an input that is passed on
-input_held : (events : ℕ) (run : RunFrame) → events ≤ 256 → IsTime run.input.time → IsInput events (derived_input events run)
+input_held : (events : ℕ) (run : RunFrame) → events ≤ 256 → IsTime run.input.time → IsInput events (chained_input events run)
 input_held events run few time =
     let n = samples_few events run.outcome in (
       time,
@@ -84,7 +84,7 @@ module _ {S G E L P : Type 0} (m : Meaning S G E L P) (first : ProfileValue) (ev
   CanPass = IsInput (length first.events)
 
   inputs_held : (before : List CycleInput) (state : State G E) (given : List CycleInput) → All CanPass given
-      → All (IsInput events) (map (derived_input events) (runs_after_inputs m first before state given))
+      → All (IsInput events) (map (chained_input events) (runs_after_inputs m first before state given))
   unfolding runs_after_inputs
   inputs_held before state [] h = All-nil (IsInput events)
   inputs_held before state (input ∷ given) h =

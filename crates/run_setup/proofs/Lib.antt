@@ -1,4 +1,5 @@
 pub mod Ending
 pub mod Keeping
+pub mod Meeting
 mod Reading
 pub mod lemmas

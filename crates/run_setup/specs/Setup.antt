@@ -18,13 +18,13 @@ abbrev pub IsGood : ManifestValue → Type 0
 IsGood m = bad_param m.kind m.params (length m.events) ≡ None
 
 -- the manifest, if its job refuses no parameter
-abbrev pub check_params : ManifestValue → Result ManifestValue BadManifest
-check_params m =
+abbrev pub check_manifest_params : ManifestValue → Result ManifestValue BadManifest
+check_manifest_params m =
     option_map_or (λ i. Err (Parameter i)) (bad_param m.kind m.params (length m.events)) (Ok m)
 
 abbrev pub setup_from : Result ManifestValue ManifestFault → Result ManifestValue BadManifest
 setup_from (Err fault) = Err (Fault fault)
-setup_from (Ok m) = check_params m
+setup_from (Ok m) = check_manifest_params m
 
 -- the manifest in a text, or why it is refused: its first fault, else the least bad parameter
 abbrev pub setup_of : (strict : Bool) → List ℕ → Result ManifestValue BadManifest

@@ -1,7 +1,7 @@
 //! Decodes the text of a manifest, and checks its parameters by its job. `read_setup` reads the
 //! text.
 ghost use Rattle.std.specs.Prelude.{◌≡◌, IfOk, IfErr, Ok, Err};
-ghost use Rattle.run_setup.specs.Setup.{check_params, setup_of};
+ghost use Rattle.run_setup.specs.Setup.{check_manifest_params, setup_of};
 ghost use Rattle.det_io.specs.Traffic.{failure_in, IfRefused};
 ghost use Rattle.run_setup.specs.Setup.{IsCalm, IsGood};
 ghost use Rattle.manifest.specs.Meaning.{IfFault, manifest_of};
@@ -13,10 +13,11 @@ use manifest::{Manifest, ManifestError, read_manifest, read_strict_manifest};
 use std::alloc::Global;
 
 /// The manifest, if its job takes its parameters. Otherwise `Refused` has the least bad parameter.
-fn check_params(manifest: Manifest) -> Result<Manifest, Stopped<BadManifest>>
-    ensures manifest { IfOk result (λ m. check_params manifest ≡ Ok m) }
+fn check_manifest_params(manifest: Manifest) -> Result<Manifest, Stopped<BadManifest>>
+    ensures manifest { IfOk result (λ m. check_manifest_params manifest ≡ Ok m) }
     ensures good { IfOk result IsGood }
-    ensures refused { IfErr result (λ e. IfRefused e (λ why. check_params manifest ≡ Err why)) }
+    ensures refused { IfErr result (λ e. IfRefused e (λ why.
+        check_manifest_params manifest ≡ Err why)) }
     ensures calm { IsCalm (failure_in result) }
 {
     let events = manifest.events().len() as u16;
@@ -50,7 +51,7 @@ pub(crate) fn setup_of(
     ensures calm { IsCalm (failure_in result) }
 {
     match manifest_by(alloc, text, strict) {
-        Ok(manifest) => check_params(manifest),
+        Ok(manifest) => check_manifest_params(manifest),
         Err(ManifestError::Fault(fault)) => { Err(Stopped::Refused(BadManifest::Fault(fault))) }
         Err(ManifestError::OutOfMemory) => Err(Stopped::Failed(Failure::OutOfMemory)),
     }

@@ -1,4 +1,5 @@
-//! Opens a record and reads its header, so that its job can run again.
+//! Opens a record and reads its header, so that its job can run again, or says why it can't
+//! (`BadRun`).
 
 mod bad_run;
 mod job_kind;

@@ -1,4 +1,4 @@
-//! `FreshRun`: a run before its first cycle, and how its crew is started and ended.
+//! `FreshRun`: a run before its first cycle, and how its crew is started.
 ghost use Rattle.std.specs.Prelude.{◌≡◌, length, min, max, None, IfOk};
 ghost use Rattle.job.specs.Passes.{blocks_of};
 ghost use Rattle.recorder.specs.run_writer.Recording.{IsNew};
@@ -21,33 +21,36 @@ pub(crate) struct FreshRun<'r, J: Job, R, G> {
     pub(crate) workers: Workers<'r, R, G>,
 }
 
-/// Makes the run of a job, for as many of the workers as there are blocks of elements.
-pub(crate) fn begin_run<'r, J: Job, R, G>(
-    workers: &Workers<'r, R, G>,
-    profile: Profile,
-) -> Result<FreshRun<'r, J, R, G>, OutOfMemory>
-    requires good { J.meaning.bad_param profile.params (length profile.events) ≡ None }
-    ensures new { IfOk result (λ fresh_run. IsNew J.meaning fresh_run.recording) }
-    ensures profile { IfOk result (λ fresh_run. fresh_run.recording.profile ≡ profile) }
-    ensures workers { IfOk result (λ fresh_run. fresh_run.workers.count ≡ max (min workers.now.count
-        (blocks_of (length fresh_run.recording.engine.state.elements))) 1) }
-{
-    let events = profile.events.len() as u16;
-    let Ok(job) = J::make(&profile.params, events) else {
-        unreachable!()
-    };
-    let engine = Engine::start(workers.alloc, job, &profile)?;
-    let recording = Recording::new(workers.alloc, engine, profile);
-    let room = CrewRoom::<J>::new(workers.alloc)?;
-    let workers = workers_needed(workers, recording.elements());
-    Ok(FreshRun {
-        recording,
-        room,
-        workers,
-    })
+impl<'r, J: Job, R, G> FreshRun<'r, J, R, G> {
+    /// Makes the run of a job, for as many of the workers as there are blocks of elements.
+    pub(crate) fn new(
+        workers: &Workers<'r, R, G>,
+        profile: Profile,
+    ) -> Result<FreshRun<'r, J, R, G>, OutOfMemory>
+        requires good { J.meaning.bad_param profile.params (length profile.events) ≡ None }
+        ensures new { IfOk result (λ fresh_run. IsNew J.meaning fresh_run.recording) }
+        ensures profile { IfOk result (λ fresh_run. fresh_run.recording.profile ≡ profile) }
+        ensures workers { IfOk result (λ fresh_run. fresh_run.workers.count
+            ≡ max (min workers.now.count
+            (blocks_of (length fresh_run.recording.engine.state.elements))) 1) }
+    {
+        let events = profile.events.len() as u16;
+        let Ok(job) = J::make(&profile.params, events) else {
+            unreachable!()
+        };
+        let engine = Engine::start(workers.alloc, job, &profile)?;
+        let recording = Recording::new(workers.alloc, engine, profile);
+        let room = CrewRoom::<J>::new(workers.alloc)?;
+        let workers = workers_needed(workers, recording.elements());
+        Ok(FreshRun {
+            recording,
+            room,
+            workers,
+        })
+    }
 }
 
-/// Starts the threads of a crew in its room. `stop_crew` ends them.
+/// Starts the threads of a crew in the room of a run.
 pub(crate) fn start_crew<J, N, R, G>(
     fresh_run: FreshRun<'_, J, R, G>,
 ) -> Result<Runner<J, Crew<J, N, G>>, OutOfMemory>
@@ -77,20 +80,4 @@ where
         workers.gate,
     )?;
     Ok(Runner { recording, pool })
-}
-
-/// Ends the crew of a run. None of its threads goes on.
-pub(crate) fn stop_crew<J, N, R, G>(runner: Runner<J, Crew<J, N, G>>, rt: &R)
-where
-    J: Job + Send + Sync + 'static,
-    J::Globals: Send + 'static,
-    J::Element: Send + Sync + 'static,
-    J::Plan: Send + Sync + 'static,
-    J::Part: Send + Sync + 'static,
-    N: OfficeName + Send + Sync + 'static,
-    R: Threads,
-    G: Gate + Send + Sync + 'static,
-{
-    let Runner { recording: _, pool } = runner;
-    pool.stop(rt);
 }

@@ -1,4 +1,5 @@
-//! Starts the run of a shipped job with a crew for its passes, and passes both to a visitor.
+//! Starts the run of a shipped job with a crew for its passes on the workers of a host, and passes
+//! both to a visitor.
 //!
 //! Only this crate knows the list of shipped jobs, what threads require of them, and how a crew is
 //! made. A visitor is a `Visit` or a `VisitTwo`, which are generic in the job and in its pool.

@@ -1,11 +1,11 @@
 //! `with_two_crews`: an operation on the runs of two shipped jobs, with a crew for each.
-ghost use Rattle.std.specs.Prelude.{◌≡◌, length, None, IfOk, OnErr};
-ghost use Rattle.det_io.specs.Traffic.{shelf_run, sink_run};
+ghost use Rattle.std.specs.Prelude.{◌≡◌, length, None};
 ghost use Rattle.recorder.specs.run_writer.Recording.{IsNew};
 ghost use Rattle.jobs.specs.Kinds.{bad_param, of_kind};
 ghost use Rattle.worker_pool.specs.Crews.{room_name};
+ghost use Rattle.shipped_crews.specs.Visits.{HasVisitedTwo};
 
-use crate::fresh_run::{FreshRun, begin_run, start_crew, stop_crew};
+use crate::fresh_run::{FreshRun, start_crew};
 use crate::one_crew::ShippedRun;
 use crate::visit_two::VisitTwo;
 use crate::workers::Workers;
@@ -28,7 +28,7 @@ pub struct PlannedRun<'r, R, G> {
 
 /// Calls a visitor on a first run and on a second one with a crew. The second crew's threads end
 /// before this returns.
-fn with_second_crew<A, P, B, N, V, S, K, L, R, G>(
+fn visit_second_crew<A, P, B, N, V, S, K, L, R, G>(
     first: &mut Runner<A, P>,
     second: FreshRun<'_, B, R, G>,
     visitor: V,
@@ -56,75 +56,22 @@ where
     requires room { room_name second.room ≡ N.table }
     requires can { V.Can visitor first.old.recording.profile second.recording.profile
         (S.sees shelf.old) }
-    ensures given { IfOk result (λ answer. V.Gives
-        _ _ _ _ _ A.meaning first.old.recording.profile
-        _ _ _ _ _ B.meaning second.entry.recording.profile visitor
-        (shelf_run S.sees S.stays shelf.old shelf.new)
-        (sink_run K.took K.faults first_sink.old first_sink.new)
-        (sink_run L.took L.faults second_sink.old second_sink.new) answer) }
-    ensures shelf { OnErr result (shelf.new ≡ shelf.old) }
-    ensures first_sink { OnErr result (first_sink.new ≡ first_sink.old) }
-    ensures second_sink { OnErr result (second_sink.new ≡ second_sink.old) }
+    ensures { HasVisitedTwo S.sees S.stays
+        (V.Gives _ _ _ _ _ A.meaning first.old.recording.profile
+        _ _ _ _ _ B.meaning second.entry.recording.profile visitor)
+        K.took K.faults L.took L.faults shelf.old shelf.new
+        first_sink.old first_sink.new second_sink.old second_sink.new result }
 {
     let rt = second.workers.rt;
     let mut second = start_crew::<B, N, R, G>(second)?;
     let answer = visitor.visit_two(first, &mut second, shelf, first_sink, second_sink);
-    stop_crew(second, rt);
+    let Runner { recording: _, pool } = second;
+    pool.stop(rt);
     Ok(answer)
 }
 
-/// Calls a visitor on a first run and on the run of the second job.
-fn run_second_job<A, P, B, V, S, K, L, R, G>(
-    first: &mut Runner<A, P>,
-    second: PlannedRun<'_, R, G>,
-    visitor: V,
-    shelf: &mut S,
-    first_sink: &mut K,
-    second_sink: &mut L,
-) -> Result<V::Answer, OutOfMemory>
-where
-    A: Job,
-    P: Pool<A>,
-    B: Job + Send + Sync + 'static,
-    B::Globals: Send + 'static,
-    B::Element: Send + Sync + 'static,
-    B::Plan: Send + Sync + 'static,
-    B::Part: Send + Sync + 'static,
-    V: VisitTwo,
-    S: Slots,
-    K: Sink,
-    L: Sink,
-    R: Threads,
-    G: Gate + Send + Sync + 'static,
-    requires first { IsNew A.meaning first.old.recording }
-    requires second { B.meaning.bad_param second.run.profile.params
-        (length second.run.profile.events) ≡ None }
-    requires can { V.Can visitor first.old.recording.profile second.run.profile
-        (S.sees shelf.old) }
-    ensures given { IfOk result (λ answer. V.Gives
-        _ _ _ _ _ A.meaning first.old.recording.profile
-        _ _ _ _ _ B.meaning second.entry.run.profile visitor
-        (shelf_run S.sees S.stays shelf.old shelf.new)
-        (sink_run K.took K.faults first_sink.old first_sink.new)
-        (sink_run L.took L.faults second_sink.old second_sink.new) answer) }
-    ensures shelf { OnErr result (shelf.new ≡ shelf.old) }
-    ensures first_sink { OnErr result (first_sink.new ≡ first_sink.old) }
-    ensures second_sink { OnErr result (second_sink.new ≡ second_sink.old) }
-{
-    let PlannedRun { run, workers } = second;
-    let fresh_run = begin_run::<B, R, G>(&workers, run.profile)?;
-    with_second_crew::<A, P, B, Brand, V, S, K, L, R, G>(
-        first,
-        fresh_run,
-        visitor,
-        shelf,
-        first_sink,
-        second_sink,
-    )
-}
-
-/// Calls a visitor on a first run and on the run of the job of the second kind.
-fn run_second_of_kind<A, P, V, S, K, L, R, G>(
+/// Calls a visitor on a first run and on the run of a second shipped job, with a crew for it.
+fn visit_second_kind<A, P, V, S, K, L, R, G>(
     first: &mut Runner<A, P>,
     second: PlannedRun<'_, R, G>,
     visitor: V,
@@ -146,47 +93,55 @@ where
         (length second.run.profile.events) ≡ None }
     requires can { V.Can visitor first.old.recording.profile second.run.profile
         (S.sees shelf.old) }
-    ensures given { IfOk result (λ answer. of_kind (λ t h f k q n. V.Gives
+    ensures { HasVisitedTwo S.sees S.stays
+        (λ shelf one two answer. of_kind (λ t h f k q n. V.Gives
         _ _ _ _ _ A.meaning first.old.recording.profile
-        t h f k q n second.entry.run.profile visitor
-        (shelf_run S.sees S.stays shelf.old shelf.new)
-        (sink_run K.took K.faults first_sink.old first_sink.new)
-        (sink_run L.took L.faults second_sink.old second_sink.new) answer) second.entry.run.kind) }
-    ensures shelf { OnErr result (shelf.new ≡ shelf.old) }
-    ensures first_sink { OnErr result (first_sink.new ≡ first_sink.old) }
-    ensures second_sink { OnErr result (second_sink.new ≡ second_sink.old) }
+        t h f k q n second.entry.run.profile visitor shelf one two answer) second.entry.run.kind)
+        K.took K.faults L.took L.faults shelf.old shelf.new
+        first_sink.old first_sink.new second_sink.old second_sink.new result }
 {
-    match second.run.kind {
-        JobKind::Bank => run_second_job::<A, P, Bank, V, S, K, L, R, G>(
-            first,
-            second,
-            visitor,
-            shelf,
-            first_sink,
-            second_sink,
-        ),
-        JobKind::Cloud => run_second_job::<A, P, Cloud, V, S, K, L, R, G>(
-            first,
-            second,
-            visitor,
-            shelf,
-            first_sink,
-            second_sink,
-        ),
-        JobKind::Guard => run_second_job::<A, P, Guard, V, S, K, L, R, G>(
-            first,
-            second,
-            visitor,
-            shelf,
-            first_sink,
-            second_sink,
-        ),
+    let PlannedRun { run, workers } = second;
+    let ShippedRun { kind, profile } = run;
+    match kind {
+        JobKind::Bank => {
+            let second = FreshRun::<Bank, R, G>::new(&workers, profile)?;
+            visit_second_crew::<A, P, Bank, Brand, V, S, K, L, R, G>(
+                first,
+                second,
+                visitor,
+                shelf,
+                first_sink,
+                second_sink,
+            )
+        }
+        JobKind::Cloud => {
+            let second = FreshRun::<Cloud, R, G>::new(&workers, profile)?;
+            visit_second_crew::<A, P, Cloud, Brand, V, S, K, L, R, G>(
+                first,
+                second,
+                visitor,
+                shelf,
+                first_sink,
+                second_sink,
+            )
+        }
+        JobKind::Guard => {
+            let second = FreshRun::<Guard, R, G>::new(&workers, profile)?;
+            visit_second_crew::<A, P, Guard, Brand, V, S, K, L, R, G>(
+                first,
+                second,
+                visitor,
+                shelf,
+                first_sink,
+                second_sink,
+            )
+        }
     }
 }
 
 /// Calls a visitor on a first run with a crew and on a second one. The first crew's threads end
 /// before this returns.
-fn with_first_crew<A, N, V, S, K, L, R, G>(
+fn visit_first_crew<A, N, V, S, K, L, R, G>(
     first: FreshRun<'_, A, R, G>,
     second: PlannedRun<'_, R, G>,
     visitor: V,
@@ -212,19 +167,16 @@ where
     requires second { bad_param second.run.kind second.run.profile.params
         (length second.run.profile.events) ≡ None }
     requires can { V.Can visitor first.recording.profile second.run.profile (S.sees shelf.old) }
-    ensures given { IfOk result (λ answer. of_kind (λ t h f k q n. V.Gives
+    ensures { HasVisitedTwo S.sees S.stays
+        (λ shelf one two answer. of_kind (λ t h f k q n. V.Gives
         _ _ _ _ _ A.meaning first.entry.recording.profile
-        t h f k q n second.entry.run.profile visitor
-        (shelf_run S.sees S.stays shelf.old shelf.new)
-        (sink_run K.took K.faults first_sink.old first_sink.new)
-        (sink_run L.took L.faults second_sink.old second_sink.new) answer) second.entry.run.kind) }
-    ensures shelf { OnErr result (shelf.new ≡ shelf.old) }
-    ensures first_sink { OnErr result (first_sink.new ≡ first_sink.old) }
-    ensures second_sink { OnErr result (second_sink.new ≡ second_sink.old) }
+        t h f k q n second.entry.run.profile visitor shelf one two answer) second.entry.run.kind)
+        K.took K.faults L.took L.faults shelf.old shelf.new
+        first_sink.old first_sink.new second_sink.old second_sink.new result }
 {
     let rt = first.workers.rt;
     let mut first = start_crew::<A, N, R, G>(first)?;
-    let answer = run_second_of_kind::<A, Crew<A, N, G>, V, S, K, L, R, G>(
+    let answer = visit_second_kind::<A, Crew<A, N, G>, V, S, K, L, R, G>(
         &mut first,
         second,
         visitor,
@@ -232,56 +184,9 @@ where
         first_sink,
         second_sink,
     );
-    stop_crew(first, rt);
+    let Runner { recording: _, pool } = first;
+    pool.stop(rt);
     answer
-}
-
-/// Calls a visitor on the run of the first job and on a second run.
-fn run_first_job<A, V, S, K, L, R, G>(
-    first: PlannedRun<'_, R, G>,
-    second: PlannedRun<'_, R, G>,
-    visitor: V,
-    shelf: &mut S,
-    first_sink: &mut K,
-    second_sink: &mut L,
-) -> Result<V::Answer, OutOfMemory>
-where
-    A: Job + Send + Sync + 'static,
-    A::Globals: Send + 'static,
-    A::Element: Send + Sync + 'static,
-    A::Plan: Send + Sync + 'static,
-    A::Part: Send + Sync + 'static,
-    V: VisitTwo,
-    S: Slots,
-    K: Sink,
-    L: Sink,
-    R: Threads,
-    G: Gate + Send + Sync + 'static,
-    requires first { A.meaning.bad_param first.run.profile.params
-        (length first.run.profile.events) ≡ None }
-    requires second { bad_param second.run.kind second.run.profile.params
-        (length second.run.profile.events) ≡ None }
-    requires can { V.Can visitor first.run.profile second.run.profile (S.sees shelf.old) }
-    ensures given { IfOk result (λ answer. of_kind (λ t h f k q n. V.Gives
-        _ _ _ _ _ A.meaning first.entry.run.profile
-        t h f k q n second.entry.run.profile visitor
-        (shelf_run S.sees S.stays shelf.old shelf.new)
-        (sink_run K.took K.faults first_sink.old first_sink.new)
-        (sink_run L.took L.faults second_sink.old second_sink.new) answer) second.entry.run.kind) }
-    ensures shelf { OnErr result (shelf.new ≡ shelf.old) }
-    ensures first_sink { OnErr result (first_sink.new ≡ first_sink.old) }
-    ensures second_sink { OnErr result (second_sink.new ≡ second_sink.old) }
-{
-    let PlannedRun { run, workers } = first;
-    let fresh_run = begin_run::<A, R, G>(&workers, run.profile)?;
-    with_first_crew::<A, Brand, V, S, K, L, R, G>(
-        fresh_run,
-        second,
-        visitor,
-        shelf,
-        first_sink,
-        second_sink,
-    )
 }
 
 /// Calls a visitor on the runs of two shipped jobs, each with a crew of its own. The threads of
@@ -311,42 +216,48 @@ where
     requires second { bad_param second.run.kind second.run.profile.params
         (length second.run.profile.events) ≡ None }
     requires can { V.Can visitor first.run.profile second.run.profile (S.sees shelf.old) }
-    ensures given { IfOk result (λ answer. of_kind (λ s g e l p m.
-        of_kind (λ t h f k q n. V.Gives
-        s g e l p m first.entry.run.profile
-        t h f k q n second.entry.run.profile visitor
-        (shelf_run S.sees S.stays shelf.old shelf.new)
-        (sink_run K.took K.faults first_sink.old first_sink.new)
-        (sink_run L.took L.faults second_sink.old second_sink.new) answer) second.entry.run.kind)
-        first.entry.run.kind) }
-    ensures shelf { OnErr result (shelf.new ≡ shelf.old) }
-    ensures first_sink { OnErr result (first_sink.new ≡ first_sink.old) }
-    ensures second_sink { OnErr result (second_sink.new ≡ second_sink.old) }
+    ensures { HasVisitedTwo S.sees S.stays
+        (λ shelf one two answer. of_kind (λ s g e l p m. of_kind (λ t h f k q n. V.Gives
+        s g e l p m first.entry.run.profile t h f k q n second.entry.run.profile visitor
+        shelf one two answer) second.entry.run.kind) first.entry.run.kind)
+        K.took K.faults L.took L.faults shelf.old shelf.new
+        first_sink.old first_sink.new second_sink.old second_sink.new result }
 {
-    match first.run.kind {
-        JobKind::Bank => run_first_job::<Bank, V, S, K, L, R, G>(
-            first,
-            second,
-            visitor,
-            shelf,
-            first_sink,
-            second_sink,
-        ),
-        JobKind::Cloud => run_first_job::<Cloud, V, S, K, L, R, G>(
-            first,
-            second,
-            visitor,
-            shelf,
-            first_sink,
-            second_sink,
-        ),
-        JobKind::Guard => run_first_job::<Guard, V, S, K, L, R, G>(
-            first,
-            second,
-            visitor,
-            shelf,
-            first_sink,
-            second_sink,
-        ),
+    let PlannedRun { run, workers } = first;
+    let ShippedRun { kind, profile } = run;
+    match kind {
+        JobKind::Bank => {
+            let first = FreshRun::<Bank, R, G>::new(&workers, profile)?;
+            visit_first_crew::<Bank, Brand, V, S, K, L, R, G>(
+                first,
+                second,
+                visitor,
+                shelf,
+                first_sink,
+                second_sink,
+            )
+        }
+        JobKind::Cloud => {
+            let first = FreshRun::<Cloud, R, G>::new(&workers, profile)?;
+            visit_first_crew::<Cloud, Brand, V, S, K, L, R, G>(
+                first,
+                second,
+                visitor,
+                shelf,
+                first_sink,
+                second_sink,
+            )
+        }
+        JobKind::Guard => {
+            let first = FreshRun::<Guard, R, G>::new(&workers, profile)?;
+            visit_first_crew::<Guard, Brand, V, S, K, L, R, G>(
+                first,
+                second,
+                visitor,
+                shelf,
+                first_sink,
+                second_sink,
+            )
+        }
     }
 }

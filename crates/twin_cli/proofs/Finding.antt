@@ -7,6 +7,7 @@ use Rattle.det_values.specs.declared.job_kind.JobKind.{JobKind}
 use Rattle.det_io.specs.Count.{Rose}
 use Rattle.det_io.specs.Shelf.{ShelfState, Asks, AsksPrefix}
 use Rattle.det_io.specs.Traffic.{failure_in, IfRefused}
+use Rattle.det_io.specs.declared.failure.Failure.{Failure}
 use Rattle.det_io.specs.declared.failure.Failure.TheVariants as failures
 use Rattle.det_io.specs.declared.failure.Stopped.{Stopped}
 use Rattle.det_io.specs.declared.failure.Stopped.TheVariants.{Refused, Failed}
@@ -18,13 +19,16 @@ use Rattle.manifest.specs.Values.{ManifestValue}
 use Rattle.manifest.specs.Profiles.{profile_of}
 use Rattle.copies.specs.declared.verdict.Verdict.{Verdict}
 use Rattle.cli_answers.specs.declared.answer.BadManifest as refusals
+use Rattle.cli_answers.specs.Found.{FindsBy}
 use Rattle.cli_answers.specs.Outcome.{OutcomeIn, KnowsBytes, known_bytes}
+use Rattle.cli_answers.specs.Slots.{KeepsSlots}
 use Rattle.run_setup.specs.Setup.{setup_of}
 use Rattle.twin_cli.specs.declared.twin_answer.TwinAnswer.{TwinAnswer}
 use Rattle.twin_cli.specs.declared.twin_answer.TwinAnswer.TheVariants.{BadWords, LongStimulus, ReadFault, WriteFault}
-use Rattle.twin_cli.specs.Answers.{without_manifest, without_text}
+use Rattle.twin_cli.specs.Answers.{failed, without_manifest, without_text}
 use Rattle.twin_cli.specs.FoundVerdict.{Finds, Found}
-use Rattle.twin_cli.specs.Outcome.{refusal, twin_outcome, twin_outcome_by_kind, twin_outcome_by_setup, twins_outcome, names_by}
+use Rattle.twin_cli.specs.Outcome.{refusal, verdict_outcome, twin_outcome, twin_outcome_by_kind, twin_outcome_by_setup, twins_outcome}
+use Rattle.twin_cli.specs.Outcome.{names_by}
 use Rattle.twin_cli.specs.Words.{TwinsValue}
 
 -- ---- of a text
@@ -40,11 +44,29 @@ module _ (twins : TwinsValue) (kind : JobKind) (profile : ProfileValue) (text : 
       let e : nat_lt 1048576 (length text) ≡ true = lt-ltb 1048576 (length text) long in
       by_kind-has (λ S G E L P m. twin_outcome twins m profile text) (λ o. refusal LongStimulus ≡ o) (λ S G E L P m. rw e refl) kind
 
+abbrev failing : TwinAnswer → Result Verdict TwinAnswer
+failing answer = Err answer
+
 -- neither shelf nor sink failed, and the words were a command
 pub record IsQuiet (result : Result Verdict TwinAnswer) : Type 0 where
   pub reads_nothing : result ≢ Err ReadFault
   pub writes_nothing : result ≢ Err WriteFault
   pub words : result ≢ Err BadWords
+
+-- ---- no manifest or no text are no bad words
+
+no-words : (failure : Failure) → failing (failed failure) ≢ Err BadWords
+no-words failures.Read = λ e. cc
+no-words failures.Write = λ e. cc
+no-words failures.OutOfMemory = λ e. cc
+
+no-manifest-words : (end : Stopped refusals.BadManifest) → failing (without_manifest end) ≢ Err BadWords
+no-manifest-words (Refused why) = λ e. cc
+no-manifest-words (Failed failure) = no-words failure
+
+no-text-words : (end : Stopped TooLong) → failing (without_text end) ≢ Err BadWords
+no-text-words (Refused long) = λ e. cc
+no-text-words (Failed failure) = no-words failure
 
 -- ---- of the names
 
@@ -76,37 +98,45 @@ module _ (twins : TwinsValue) (first : ShelfState) where
       asks-then-prefix first last last (twins.manifest ∷ []) (twins.stimulus ∷ []) asked
       (asks-prefix-none last last (twins.stimulus ∷ []) refl)
 
+  -- what is found, if that is known
+  abbrev Finding : ShelfState → Result Verdict TwinAnswer → Type 0
+  Finding last result =
+      FindsBy failed verdict_outcome (twins_outcome twins (known_bytes first)) (KnowsBytes first (names setup))
+      (Rose first.faults last.faults) result
+
+  -- a read failed or memory ran out
+  finds-failure : (last : ShelfState) (failure : Failure) → (Some failure ≡ Some failures.Read → Rose first.faults last.faults)
+      → (Some failure ≡ Some failures.Write → ⊥) → Finding last (Err (failed failure))
+  finds-failure last failures.Read read write =
+      record { finds = λ t. inl refl; read_fault = λ e. read refl; writes_nothing = λ e. cc }
+  finds-failure last failures.Write read write = absurd (write refl)
+  finds-failure last failures.OutOfMemory read write =
+      record { finds = λ t. inr (inl refl); read_fault = λ e. absurd cc; writes_nothing = λ e. cc }
+
   -- a manifest that is refused, or couldn't be read
+  finds-no-manifest : (last : ShelfState) (end : Stopped refusals.BadManifest)
+      → IfRefused end (λ why. IsSome (first.holds twins.manifest) → setup ≡ Err why)
+      → (failure_in {A = ManifestValue} (Err end) ≡ Some failures.Read → Rose first.faults last.faults)
+      → (failure_in {A = ManifestValue} (Err end) ≡ Some failures.Write → ⊥) → Finding last (Err (without_manifest end))
+  finds-no-manifest last (Refused why) bad read write = record {
+    finds = λ t. inr (inr (sym (ap (λ r. twin_outcome_by_setup twins r (known_bytes first twins.stimulus)) (bad (is_known-manifest setup
+        t)))));
+    read_fault = λ e. absurd cc;
+    writes_nothing = λ e. cc;
+  }
+  finds-no-manifest last (Failed failure) bad read write = finds-failure last failure read write
+
   pub found-no-manifest : (last : ShelfState) (end : Stopped refusals.BadManifest)
       → IfRefused end (λ why. IsSome (first.holds twins.manifest) → setup ≡ Err why)
       → (failure_in {A = ManifestValue} (Err end) ≡ Some failures.Read → Rose first.faults last.faults)
       → (failure_in {A = ManifestValue} (Err end) ≡ Some failures.Write → ⊥) → Asks first last (twins.manifest ∷ [])
-      → Found twins first last (Err (without_manifest end))
-  found-no-manifest last (Refused why) bad read write asked = record {
-    finds = λ t. inr (inr (sym (ap (λ r. twin_outcome_by_setup twins r (known_bytes first twins.stimulus)) (bad (is_known-manifest setup
-        t)))));
-    cause = λ e. absurd cc;
-    writes_nothing = λ e. cc;
-    words = λ e. cc;
+      → KeepsSlots first last → Found twins first last (Err (without_manifest end))
+  found-no-manifest last end bad read write asked earlier = record {
+    found = finds-no-manifest last end bad read write;
+    words = no-manifest-words end;
     asked = asked-first last asked;
     needed = λ t. asked-manifest last setup asked;
-  }
-  found-no-manifest last (Failed failures.Read) bad read write asked = record {
-    finds = λ t. inl refl;
-    cause = λ e. read refl;
-    writes_nothing = λ e. cc;
-    words = λ e. cc;
-    asked = asked-first last asked;
-    needed = λ t. asked-manifest last setup asked;
-  }
-  found-no-manifest last (Failed failures.Write) bad read write asked = absurd (write refl)
-  found-no-manifest last (Failed failures.OutOfMemory) bad read write asked = record {
-    finds = λ t. inr (inl refl);
-    cause = λ e. absurd cc;
-    writes_nothing = λ e. cc;
-    words = λ e. cc;
-    asked = asked-first last asked;
-    needed = λ t. asked-manifest last setup asked;
+    earlier = earlier;
   }
 
   module _ (m : ManifestValue) (is : IsSome (first.holds twins.manifest) → setup ≡ Ok m) where
@@ -131,7 +161,7 @@ module _ (twins : TwinsValue) (first : ShelfState) where
     by-told t = sym (ap (λ r. twin_outcome_by_setup twins r (known_bytes first twins.stimulus)) (is-told t))
 
     module _ (mid last : ShelfState) (holds : mid.holds ≡ first.holds) (asked : Asks first mid (twins.manifest ∷ []))
-        (more : Asks mid last (twins.stimulus ∷ [])) where
+        (more : Asks mid last (twins.stimulus ∷ [])) (earlier : KeepsSlots first last) where
       asked-all : AsksPrefix first last (twins.manifest ∷ twins.stimulus ∷ [])
       asked-all = asks-then-prefix first mid last (twins.manifest ∷ []) (twins.stimulus ∷ []) asked
           (asks-all mid last (twins.stimulus ∷ []) more)
@@ -151,36 +181,28 @@ module _ (twins : TwinsValue) (first : ShelfState) where
           ∙ by-told t
 
       -- a stimulus that is too long, or couldn't be read
+      finds-no-text : (end : Stopped TooLong)
+          → IfRefused end (λ _. IsSome (mid.holds twins.stimulus) → 1048576 < length (known_bytes mid twins.stimulus))
+          → (failure_in {A = List ℕ} (Err end) ≡ Some failures.Read → Rose mid.faults last.faults)
+          → (failure_in {A = List ℕ} (Err end) ≡ Some failures.Write → ⊥) → first.faults ≤ mid.faults
+          → Finding last (Err (without_text end))
+      finds-no-text (Refused long) bad read write counted =
+          record { finds = λ t. inr (inr (long-told bad t)); read_fault = λ e. absurd cc; writes_nothing = λ e. cc }
+      finds-no-text (Failed failure) bad read write counted =
+          finds-failure last failure (λ e. rose-before first.faults mid.faults last.faults counted (read e)) write
+
+      -- both names were opened
+      found-both : (result : Result Verdict TwinAnswer) → Finding last result → result ≢ Err BadWords → Found twins first last result
+      found-both result found words =
+          record { found = found; words = words; asked = asked-all; needed = asked-both last asked-all; earlier = earlier }
+
       pub found-no-text : (end : Stopped TooLong)
           → IfRefused end (λ _. IsSome (mid.holds twins.stimulus) → 1048576 < length (known_bytes mid twins.stimulus))
           → (failure_in {A = List ℕ} (Err end) ≡ Some failures.Read → Rose mid.faults last.faults)
           → (failure_in {A = List ℕ} (Err end) ≡ Some failures.Write → ⊥) → first.faults ≤ mid.faults
           → Found twins first last (Err (without_text end))
-      found-no-text (Refused long) bad read write counted = record {
-        finds = λ t. inr (inr (long-told bad t));
-        cause = λ e. absurd cc;
-        writes_nothing = λ e. cc;
-        words = λ e. cc;
-        asked = asked-all;
-        needed = asked-both last asked-all;
-      }
-      found-no-text (Failed failures.Read) bad read write counted = record {
-        finds = λ t. inl refl;
-        cause = λ e. rose-before first.faults mid.faults last.faults counted (read refl);
-        writes_nothing = λ e. cc;
-        words = λ e. cc;
-        asked = asked-all;
-        needed = asked-both last asked-all;
-      }
-      found-no-text (Failed failures.Write) bad read write counted = absurd (write refl)
-      found-no-text (Failed failures.OutOfMemory) bad read write counted = record {
-        finds = λ t. inr (inl refl);
-        cause = λ e. absurd cc;
-        writes_nothing = λ e. cc;
-        words = λ e. cc;
-        asked = asked-all;
-        needed = asked-both last asked-all;
-      }
+      found-no-text end bad read write counted =
+          found-both (Err (without_text end)) (finds-no-text end bad read write counted) (no-text-words end)
 
       finds-told : (text : List ℕ) (result : Result Verdict TwinAnswer)
           → (IsSome (mid.holds twins.stimulus) → text ≡ known_bytes mid twins.stimulus)
@@ -193,11 +215,8 @@ module _ (twins : TwinsValue) (first : ShelfState) where
       pub found-compared : (text : List ℕ) (result : Result Verdict TwinAnswer)
           → (IsSome (mid.holds twins.stimulus) → text ≡ known_bytes mid twins.stimulus) → Finds result (over text) → IsQuiet result
           → Found twins first last result
-      found-compared text result read finds quiet = record {
+      found-compared text result read finds quiet = found-both result (record {
         finds = λ t. inr (finds-told text result read finds t);
-        cause = λ e. absurd (quiet.reads_nothing e);
+        read_fault = λ e. absurd (quiet.reads_nothing e);
         writes_nothing = quiet.writes_nothing;
-        words = quiet.words;
-        asked = asked-all;
-        needed = asked-both last asked-all;
-      }
+      }) quiet.words

@@ -1,4 +1,5 @@
--- What an answer of `det_twin` reports: its exit status, and its line for `err`.
+-- What an answer of `det_twin` reports: its exit status, one of those of `det`, and its line for
+-- `err`.
 use Rattle.std.specs.Prelude.{ℕ, List, [], Bool, true, false, codes}
 use Rattle.det_io.specs.declared.failure.Failure.{Failure}
 use Rattle.det_io.specs.declared.failure.Failure.TheVariants as failures
@@ -9,13 +10,13 @@ use Rattle.stimulus.specs.declared.stimulus_item.StimulusFault.{StimulusFault}
 use Rattle.cli_answers.specs.Answers.{err_line}
 use Rattle.cli_answers.specs.declared.answer.BadManifest as refusals
 use Rattle.cli_answers.specs.declared.answer.Answer.TheVariants as answers
+use Rattle.cli_answers.specs.declared.status.Status.{Status}
+use Rattle.cli_answers.specs.declared.status.Status.TheVariants as statuses
 use Rattle.twin_cli.specs.declared.twin_answer.TwinAnswer.{TwinAnswer}
 use Rattle.twin_cli.specs.declared.twin_answer.TwinAnswer.TheVariants.{Done, Differs, BadWords}
 use Rattle.twin_cli.specs.declared.twin_answer.TwinAnswer.TheVariants.{BadManifest, BadStimulus}
 use Rattle.twin_cli.specs.declared.twin_answer.TwinAnswer.TheVariants.{LongStimulus, ReadFault}
 use Rattle.twin_cli.specs.declared.twin_answer.TwinAnswer.TheVariants.{WriteFault, OutOfMemory}
-use Rattle.twin_cli.specs.declared.twin_status.TwinStatus.{TwinStatus}
-use Rattle.twin_cli.specs.declared.twin_status.TwinStatus.TheVariants as statuses
 
 -- the answer of a failure
 abbrev pub failed : Failure → TwinAnswer
@@ -42,7 +43,7 @@ has_text Done = true
 has_text Differs = true
 has_text answer = false
 
-abbrev pub status_of : TwinAnswer → TwinStatus
+abbrev pub status_of : TwinAnswer → Status
 status_of Done = statuses.Done
 status_of Differs = statuses.Differs
 status_of BadWords = statuses.BadWords
@@ -52,16 +53,6 @@ status_of LongStimulus = statuses.BadStimulus
 status_of ReadFault = statuses.ReadFault
 status_of WriteFault = statuses.WriteFault
 status_of OutOfMemory = statuses.OutOfMemory
-
-abbrev pub number_of : TwinStatus → ℕ
-number_of statuses.Done = 0
-number_of statuses.Differs = 1
-number_of statuses.BadWords = 2
-number_of statuses.BadManifest = 3
-number_of statuses.BadStimulus = 4
-number_of statuses.ReadFault = 6
-number_of statuses.WriteFault = 7
-number_of statuses.OutOfMemory = 8
 
 -- the line for `err`, which is that of `det` if `det` has this answer
 abbrev pub line_of : TwinAnswer → List ℕ

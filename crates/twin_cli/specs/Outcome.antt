@@ -38,6 +38,10 @@ abbrev pub answer_to : Verdict → TwinAnswer
 answer_to (Agree cycles) = Done
 answer_to (Differ copy at) = Differs
 
+-- the outcome of a verdict
+abbrev pub verdict_outcome : Verdict → OutcomeIn TwinAnswer
+verdict_outcome verdict = outcome_with (answer_to verdict) (verdict_line verdict)
+
 -- the frame of a copy after the flip, by the copy and the frame's number
 abbrev pub alteration_by : Option Flip → (copy number : ℕ) → Frame → Frame
 alteration_by None copy number frame = frame
@@ -51,8 +55,7 @@ module _ (twins : TwinsValue) where
         (alteration_by twins.options.flip) twins.copies
 
     abbrev pub by_ending : Ending → List ℕ → OutcomeIn TwinAnswer
-    by_ending Terminated text =
-        outcome_with (answer_to (verdict_on text)) (verdict_line (verdict_on text))
+    by_ending Terminated text = verdict_outcome (verdict_on text)
     by_ending (BadLine line) text = refusal (BadStimulus line)
 
     -- a stimulus of more than 1,048,576 bytes is refused, as is one with a bad line

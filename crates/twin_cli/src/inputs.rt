@@ -6,6 +6,7 @@ ghost use Rattle.det_io.specs.Shelf.{Asks};
 ghost use Rattle.det_io.specs.Traffic.{ShelfTraffic, shelf_run, failure_in, IfRefused};
 ghost use Rattle.stimulus.specs.Reading.{Terminated, BadLine, blocks, ending};
 ghost use Rattle.cli_answers.specs.Outcome.{known_bytes};
+ghost use Rattle.cli_answers.specs.Slots.{KeepsSlots};
 ghost use Rattle.run_setup.specs.Setup.{IsCalm};
 
 use crate::text_inputs::TextInputs;
@@ -37,6 +38,7 @@ pub(crate) fn read_text<S: Shelf>(
         (failure_in result) }
     ensures writes_nothing { failure_in result ≡ Some Failure.Write → ⊥ }
     ensures asked { Asks (S.sees shelf.old) (S.sees shelf.new) (name.now ∷ []) }
+    ensures earlier { KeepsSlots (S.sees shelf.old) (S.sees shelf.new) }
 {
     let slot = shelf.open_input(name)?;
     let text = read_limited(alloc, shelf, slot, MOST_BYTES)?;

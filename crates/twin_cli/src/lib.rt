@@ -13,12 +13,11 @@ mod text_inputs;
 mod twin_answer;
 mod twin_command;
 mod twin_program;
-mod twin_status;
 mod twin_usage;
 
+pub use cli_answers::Status as TwinStatus;
 pub use options::{Flip, TwinOptions, Twins};
 pub use twin_answer::TwinAnswer;
 pub use twin_command::TwinCommand;
 pub use twin_program::twin_top;
-pub use twin_status::TwinStatus;
 pub use twin_usage::{USAGE, VERSION};

@@ -2,8 +2,7 @@
 ghost use Rattle.std.specs.Prelude.{◌≡◌};
 ghost use Rattle.twin_cli.specs.Answers.{line_of, status_of};
 
-use crate::twin_status::TwinStatus;
-use cli_answers::{Answer, AnswerLine, BadManifest};
+use cli_answers::{Answer, AnswerLine, BadManifest, Status};
 use det_io::{Failure, Stopped, TooLong};
 use stimulus::StimulusFault;
 
@@ -83,19 +82,19 @@ impl From<Stopped<StimulusFault>> for TwinAnswer {
 
 impl TwinAnswer {
     /// The exit status.
-    pub fn status(self) -> TwinStatus
+    pub fn status(self) -> Status
         ensures { result ≡ status_of self }
     {
         match self {
-            TwinAnswer::Done => TwinStatus::Done,
-            TwinAnswer::Differs => TwinStatus::Differs,
-            TwinAnswer::BadWords => TwinStatus::BadWords,
-            TwinAnswer::BadManifest(_) => TwinStatus::BadManifest,
-            TwinAnswer::BadStimulus { .. } => TwinStatus::BadStimulus,
-            TwinAnswer::LongStimulus => TwinStatus::BadStimulus,
-            TwinAnswer::ReadFault => TwinStatus::ReadFault,
-            TwinAnswer::WriteFault => TwinStatus::WriteFault,
-            TwinAnswer::OutOfMemory => TwinStatus::OutOfMemory,
+            TwinAnswer::Done => Status::Done,
+            TwinAnswer::Differs => Status::Differs,
+            TwinAnswer::BadWords => Status::BadWords,
+            TwinAnswer::BadManifest(_) => Status::BadManifest,
+            TwinAnswer::BadStimulus { .. } => Status::BadStimulus,
+            TwinAnswer::LongStimulus => Status::BadStimulus,
+            TwinAnswer::ReadFault => Status::ReadFault,
+            TwinAnswer::WriteFault => Status::WriteFault,
+            TwinAnswer::OutOfMemory => Status::OutOfMemory,
         }
     }
 

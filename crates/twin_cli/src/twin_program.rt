@@ -1,10 +1,10 @@
 //! `twin_top`, which runs the command that the arguments name.
 ghost use Rattle.std.specs.Prelude.{◌≡◌, ◌≢◌, true, Err};
-ghost use Rattle.det_io.specs.Count.{Rose};
+ghost use Rattle.det_io.specs.Traffic.{sink_run};
 ghost use Rattle.cli_words.specs.Names.{texts};
 ghost use Rattle.cli_answers.specs.Outcome.{MeetsBy};
 ghost use Rattle.twin_cli.specs.Answers.{failed, has_text};
-ghost use Rattle.twin_cli.specs.FoundVerdict.{found_by};
+ghost use Rattle.twin_cli.specs.FoundVerdict.{found_outcome};
 ghost use Rattle.twin_cli.specs.Outcome.{answer_to, outcome_with};
 ghost use Rattle.twin_cli.specs.Promise.{IsPromised, Runs};
 ghost use Rattle.twin_cli.specs.Words.{command_of};
@@ -12,8 +12,8 @@ ghost use Rattle.twin_cli.specs.Words.{command_of};
 use crate::find_verdict::find_verdict;
 use crate::twin_answer::TwinAnswer;
 use crate::twin_command::TwinCommand;
-use crate::twin_status::TwinStatus;
 use crate::twin_usage::text_of;
+use cli_answers::{Status, write_line};
 use copies::Verdict;
 use copies::verdict_text::verdict_line;
 use det_io::{Shelf, Sink, write_all};
@@ -33,14 +33,13 @@ pub fn twin_top<S: Shelf, K: Sink, E: Sink, R: Threads + Wait + Sync>(
     shelf: &mut S,
     out: &mut K,
     err: &mut E,
-) -> TwinStatus
+) -> Status
     ensures { IsPromised (texts words.now) (S.sees shelf.old) (S.sees shelf.new)
-        (Rose (K.faults out.old) (K.faults out.new)) (K.took out.old) (K.took out.new)
-        (Rose (E.faults err.old) (E.faults err.new)) (E.took err.old) (E.took err.new) result }
+        (sink_run K.took K.faults out.old out.new)
+        (sink_run E.took E.faults err.old err.new) result }
 {
     let answer = run(rt, alloc, words, shelf, out);
-    let line = answer.line();
-    let _ = write_all(err, line.as_slice());
+    write_line(&answer.line(), err);
     answer.status()
 }
 
@@ -52,7 +51,7 @@ fn run<S: Shelf, K: Sink, R: Threads + Wait + Sync>(
     out: &mut K,
 ) -> TwinAnswer
     ensures { Runs (command_of (texts words.now)) (S.sees shelf.old) (S.sees shelf.new)
-        (Rose (K.faults out.old) (K.faults out.new)) (K.took out.old) (K.took out.new) result }
+        (sink_run K.took K.faults out.old out.new) result }
 {
     match TwinCommand::from_words(words) {
         Some(TwinCommand::Text(word)) => print(text_of(word).as_bytes(), TwinAnswer::Done, out),
@@ -72,8 +71,8 @@ fn print_verdict<K: Sink>(
 ) -> TwinAnswer
     requires writes_nothing { found ≢ Err TwinAnswer.WriteFault }
     requires words { found ≢ Err TwinAnswer.BadWords }
-    ensures meets { MeetsBy failed (found_by found) (Unit {0}) (found ≡ Err TwinAnswer.ReadFault)
-        (Rose (K.faults out.old) (K.faults out.new)) (K.took out.old) (K.took out.new) result }
+    ensures meets { MeetsBy failed (found_outcome found) (Unit {0})
+        (found ≡ Err TwinAnswer.ReadFault) (sink_run K.took K.faults out.old out.new) result }
     ensures words { result ≢ TwinAnswer.BadWords }
 {
     let verdict = match found {
@@ -100,7 +99,7 @@ fn answer_to(verdict: Verdict) -> TwinAnswer
 fn print<K: Sink>(text: &[u8], answer: TwinAnswer, out: &mut K) -> TwinAnswer
     requires { has_text answer ≡ true }
     ensures meets { MeetsBy failed (outcome_with answer text.now) (Unit {0}) ⊥
-        (Rose (K.faults out.old) (K.faults out.new)) (K.took out.old) (K.took out.new) result }
+        (sink_run K.took K.faults out.old out.new) result }
     ensures words { result ≢ TwinAnswer.BadWords }
 {
     match write_all(out, text) {

@@ -1,3 +1,2 @@
-pub mod Watched
 pub mod Ending
 pub mod SalvageMeets

@@ -1,6 +1,7 @@
 -- The state of a printer and an audience, to which the items of a record are passed.
 use Rattle.std.specs.Prelude.{◌≡◌, ℕ, List, [], ◌∷◌, length, Bool, true, false, nat_eq, Some}
-use Rattle.std.specs.Prelude.{Result, Ok, Err, if◌then◌else◌}
+use Rattle.std.specs.Prelude.{◌+◌, ◌||◌, Result, Ok, Err, if◌then◌else◌}
+use Rattle.std.specs.List.{list_any}
 use Rattle.det_values.specs.declared.format.Format.{Format}
 use Rattle.det_values.specs.declared.format.Format.TheVariants.{One}
 use Rattle.det_values.specs.declared.frames.RunFrame.{RunFrame}
@@ -14,13 +15,16 @@ use Rattle.record_grammar.specs.declared.item.Item.TheVariants as items
 use Rattle.record_text.specs.declared.show_part.ShowPart.{ShowPart}
 use Rattle.record_text.specs.declared.show_part.ShowPart.TheVariants.{All, Reports, Cycle}
 use Rattle.record_text.specs.Records.{header_lines, frame_lines}
+use Rattle.record_view.specs.declared.view.ItemKind.{ItemKind}
+use Rattle.record_reader.specs.Kinds.{begins_runs, runs_of}
+use Rattle.record_reader.specs.Salvaged.{is_init}
+use Rattle.record_reader.specs.SalvageState.{IsHeaded}
 use Rattle.record_reader.specs.ItemTaker.{ItemTaker}
 use Rattle.probes.specs.Reports.{AudienceState}
 use Rattle.probes.specs.Shows.{Shows}
 use Rattle.cmd_records.specs.declared.record_show.printer.Printer.{Printer}
 use Rattle.cmd_records.specs.record_show.Text.{format_in, lines_of}
 use Rattle.record_reader.specs.InItems.{runs_in}
-use Rattle.record_reader.specs.InItems.{run_in}
 
 abbrev pub format_by : Format → Item → Format
 format_by format (items.Header profile) = profile.format
@@ -70,9 +74,17 @@ pub record AreShown (part : ShowPart) (first now : AudienceState) (printer : Pri
     (given : List Item) : Type 0 where
   pub part_is : printer.part ≡ part
   -- the header came first
-  pub headed : format_behind One given ≡ format_in given
+  pub headed : IsHeaded given
+  pub format : format_behind One given ≡ format_in given
+  pub has_begun : printer.has_begun ≡ list_any is_init given
   pub cycles : printer.cycles ≡ length (runs_in given)
   pub watched : Watched part first now (runs_in given)
+
+-- an item of this kind was counted
+pub record Noted (kind : ItemKind) (old new : Printer) : Type 0 where
+  pub part : new.part ≡ old.part
+  pub has_begun : new.has_begun ≡ (begins_runs kind || old.has_begun)
+  pub cycles : new.cycles ≡ old.cycles + runs_of kind
 
 -- if a write failed, the audience has seen the runs of the items before
 abbrev pub IsCut : ShowPart → AudienceState → AudienceState → Stopped RecordFault → List Item

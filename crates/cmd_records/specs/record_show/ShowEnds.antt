@@ -22,6 +22,7 @@ use Rattle.cmd_records.specs.declared.record_show.shown.Shown.{Shown}
 use Rattle.cmd_records.specs.record_show.PrintedItems.{Kept}
 use Rattle.cmd_records.specs.record_show.Text.{lines_of, reports_of, text_of}
 use Rattle.record_reader.specs.InItems.{runs_in}
+use Rattle.cmd_records.specs.command_ends.Results.{UnlessNoMemory}
 
 -- ---- the text
 
@@ -49,22 +50,13 @@ Answers (Err (Failed OutOfMemory)) part audience record_bytes out =
 
 -- the audience has seen the runs of the first items of a record, whose lines a sink took
 pub record SawFirst (part : ShowPart) (old now : AudienceState) (record_bytes : List ℕ)
-    (before after : List ℕ → Type 0) : Type 0 where
+    (out : SinkRun) : Type 0 where
   pub seen : List Item
   pub first : IsPrefix seen (items_in record_bytes)
   pub saw : SawRuns old now (runs_in seen)
   pub taken : List ℕ
   pub lines : IsPrefix (lines_of part seen) taken
-  pub grew : Grew before after taken
-
--- The same for each result. If the record is whole, the audience has seen all its runs and reported
--- on them, and no probe is left. Nothing is said after "out of memory": some probes may have seen
--- one run more, or have left.
-abbrev pub Sees : Result Shown (Stopped RecordFault) → ShowPart → AudienceState → AudienceState
-    → List ℕ → SinkRun → Type 0
-Sees (Err (Failed OutOfMemory)) part old now record_bytes out = Unit {0}
-Sees result part old now record_bytes out =
-    SawFirst part old now record_bytes out.before out.after
+  pub grew : Grew out.before out.after taken
 
 -- all reports are given and no probe is left, unless only one run is printed
 abbrev pub Finished : ShowPart → AudienceState → AudienceState → List RunFrame → Type 0
@@ -111,6 +103,8 @@ pub record Ended (result : Result Shown (Stopped RecordFault)) (part : ShowPart)
   pub needed : ReadsWhile (λ first. fault_so_far first ≡ None) read
   pub wrote : WroteRead result part read out
   pub answers : OfSlot shelf slot read (λ bytes. Answers result part old bytes out)
-  pub sees : OfSlot shelf slot read (λ bytes. Sees result part old now bytes out)
+  -- after "out of memory" some probes may have seen one run more, or have left
+  pub sees : OfSlot shelf slot read
+      (λ bytes. UnlessNoMemory result (SawFirst part old now bytes out))
   pub gone : OnOk result (IsGone part now)
   pub kept : Kept part old now

@@ -1,9 +1,7 @@
 -- The outcome of `salvage`, by the bytes of a record: the record made whole, or reports of its
 -- runs.
-use Rattle.std.specs.Prelude.{ℕ, List, [], ◌++◌, Option, Some, None, Result, Ok, Err, codes}
+use Rattle.std.specs.Prelude.{ℕ, List, ◌++◌, Option, Some, None, codes}
 use Rattle.std.specs.Option.{option_map}
-use Rattle.det_io.specs.declared.failure.Stopped.{Stopped}
-use Rattle.det_io.specs.declared.failure.Stopped.TheVariants.{Refused, Failed}
 use Rattle.record_grammar.specs.declared.record_fault.RecordFault.{RecordFault}
 use Rattle.record_grammar.specs.declared.item.Item.{Item}
 use Rattle.record_grammar.specs.Record.{items as items_in, fault as fault_in}
@@ -11,9 +9,7 @@ use Rattle.record_text.specs.Words.{number_line}
 use Rattle.record_reader.specs.Salvaged.{salvaged, cycles_of}
 use Rattle.record_reader.specs.InItems.{runs_in}
 use Rattle.probes.specs.Reports.{AudienceState, reported}
-use Rattle.cli_answers.specs.declared.answer.Answer.{Answer}
-use Rattle.cli_answers.specs.declared.answer.Answer.TheVariants.{Done, BadRecord}
-use Rattle.cli_answers.specs.Answers.{failed, by_fault}
+use Rattle.cli_answers.specs.Answers.{by_fault}
 use Rattle.cli_answers.specs.Outcome.{Outcome, text_outcome, refusal}
 
 -- the bytes that are written if something is saved, or else the refusal by the record's fault
@@ -35,9 +31,3 @@ abbrev pub salvage_reports_outcome : AudienceState → List ℕ → Outcome
 salvage_reports_outcome audience record_bytes =
     outcome_by (option_map (λ saved. salvaged_text audience (items_in record_bytes))
     (salvaged record_bytes)) (fault_in record_bytes)
-
--- the answer of the command by its result
-abbrev pub answer_of : {T : Type 0} → Result T (Stopped RecordFault) → Answer
-answer_of (Ok value) = Done
-answer_of (Err (Refused f)) = BadRecord 0 f
-answer_of (Err (Failed failure)) = failed failure

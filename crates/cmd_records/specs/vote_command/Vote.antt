@@ -1,22 +1,19 @@
 -- The outcome of `vote`, by copies of a record.
 use Rattle.std.specs.Prelude.{◌≡◌, ℕ, ◌+◌, ◌<◌, ◌⊎◌, true, List, [], ◌++◌, length, get_or, map}
-use Rattle.std.specs.Prelude.{codes, decimal, Option, Some, None, Result, Ok, Err}
+use Rattle.std.specs.Prelude.{codes, decimal, Option, Some, None}
 use Rattle.std.specs.List.{flat_map}
 use Rattle.det_io.specs.Shelf.{ShelfState}
 use Rattle.det_io.specs.Sink.{Grew}
-use Rattle.det_io.specs.declared.failure.Stopped.{Stopped}
-use Rattle.det_io.specs.declared.failure.Stopped.TheVariants.{Refused, Failed}
+use Rattle.det_io.specs.Traffic.{SinkRun}
 use Rattle.record_grammar.specs.declared.item.Item.{Item}
 use Rattle.record_grammar.specs.Record.{items as items_in, fault_so_far}
 use Rattle.record_reader.specs.Salvaged.{cycles_of}
 use Rattle.record_text.specs.Words.{number_line}
 use Rattle.cmd_records.specs.declared.voter.outcome.Dissenter.{Dissenter}
 use Rattle.cmd_records.specs.declared.voter.outcome.NoMajority as voting
-use Rattle.cmd_records.specs.declared.voter.outcome.Vote.{Vote}
 use Rattle.cmd_records.specs.voter.Majority.{majority, dissent, common, are_held, spelled_items}
 use Rattle.cli_answers.specs.declared.answer.Answer.{Answer}
-use Rattle.cli_answers.specs.declared.answer.Answer.TheVariants.{Done, NoMajority}
-use Rattle.cli_answers.specs.Answers.{failed}
+use Rattle.cli_answers.specs.declared.answer.Answer.TheVariants.{NoMajority}
 use Rattle.cli_answers.specs.Ends.{Work, reads_nothing}
 use Rattle.cli_answers.specs.Outcome.{Outcome, text_outcome, refusal, known_bytes}
 
@@ -24,11 +21,9 @@ use Rattle.cli_answers.specs.Outcome.{Outcome, text_outcome, refusal, known_byte
 abbrev pub vote_work : Work
 vote_work = record reads_nothing { votes = true }
 
--- the answer by the result of a vote
-abbrev pub answer_of : Result Vote (Stopped voting.NoMajority) → Answer
-answer_of (Ok vote) = Done
-answer_of (Err (Refused split)) = NoMajority split.row
-answer_of (Err (Failed failure)) = failed failure
+-- the answer if there is no majority
+abbrev pub split_answer : voting.NoMajority → Answer
+split_answer split = NoMajority split.row
 
 -- ---- the record
 
@@ -82,9 +77,9 @@ pub record CopyShows (first last : ShelfState) (names : List (List ℕ)) (rows :
 -- If a read failed, `out` took all rows that one copy shows so far, with which more than half of
 -- the copies begin. If a name couldn't be opened, there are no rows.
 pub record VoteBreaksOff (first last : ShelfState) (names : List (List ℕ))
-    (before after : List ℕ → Type 0) : Type 0 where
+    (out : SinkRun) : Type 0 where
   pub rows : List Item
   pub shown : CopyShows first last names rows
       ⊎ ((last.slots < first.slots + length names) × (rows ≡ []))
   pub held : are_held (map (known_bytes first) names) rows ≡ true
-  pub grew : Grew before after (spelled_items rows)
+  pub grew : Grew out.before out.after (spelled_items rows)

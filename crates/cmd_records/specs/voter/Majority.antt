@@ -1,5 +1,5 @@
 -- The majority of copies of a record, and the rows that more than half of them have in common.
-use Rattle.std.specs.Prelude.{ℕ, ◌+◌, List, [], ◌∷◌, ◌++◌, length, map, Bool, true, false, ◌&&◌}
+use Rattle.std.specs.Prelude.{ℕ, ◌+◌, List, [], ◌∷◌, ◌++◌, length, map, Bool, ◌&&◌}
 use Rattle.std.specs.Prelude.{nat_le, nat_lt, find, Option, if◌then◌else◌}
 use Rattle.std.specs.List.{count_by, starts_with}
 use Rattle.std.specs.Option.{is_none, unwrap_or}

@@ -185,5 +185,6 @@ voter_after holds number v =
 
 -- the copies that don't hold a row leave
 abbrev pub voters_after : ℕ → List Bool → List Voter → List Voter
-voters_after number (b ∷ same) (v ∷ voters) = voter_after b number v ∷ voters_after number same voters
+voters_after number (b ∷ same) (v ∷ voters) = voter_after b number v ∷ voters_after number same
+    voters
 voters_after number same voters = []

@@ -1,10 +1,11 @@
 //! The command `compare` over names, around `copies::compare` over slots.
 ghost use Rattle.std.specs.Prelude.{◌≡◌, ◌≤◌, map, length, true, Ok};
-ghost use Rattle.det_io.specs.Count.{Rose};
 ghost use Rattle.det_io.specs.Shelf.{AsksPrefix};
+ghost use Rattle.det_io.specs.Traffic.{sink_run};
 ghost use Rattle.cli_answers.specs.Ends.{can_end, compares_records};
-ghost use Rattle.cli_answers.specs.Outcome.{Meets, KnowsBytes, known_bytes};
+ghost use Rattle.cli_answers.specs.Outcome.{Meets};
 ghost use Rattle.cli_answers.specs.Slots.{KeepsSlots};
+ghost use Rattle.cmd_records.specs.command_ends.Meeting.{MeetsCopies};
 ghost use Rattle.cmd_records.specs.compare_command.Compare.{answer_to, compared};
 ghost use Rattle.cmd_records.specs.compare_command.Compare.{compare_outcome};
 
@@ -16,7 +17,7 @@ use det_io::{Shelf, Sink, Stopped, write_all};
 use std::alloc::Global;
 
 /// The answer by the verdict.
-fn answer_to(verdict: Verdict) -> Answer
+fn verdict_answer(verdict: Verdict) -> Answer
     ensures is { result ≡ answer_to verdict }
     ensures ends { can_end compares_records result ≡ true }
 {
@@ -27,16 +28,16 @@ fn answer_to(verdict: Verdict) -> Answer
 }
 
 /// Prints the line of a verdict.
-fn print<K: Sink>(alloc: Global, verdict: Verdict, out: &mut K) -> Answer
-    ensures meets { Meets (compared (Ok verdict)) (Unit {0}) ⊥ (Rose (K.faults out.old)
-        (K.faults out.new)) (K.took out.old) (K.took out.new) result }
+fn print_verdict<K: Sink>(alloc: Global, verdict: Verdict, out: &mut K) -> Answer
+    ensures meets { Meets (compared (Ok verdict)) (Unit {0}) ⊥
+        (sink_run K.took K.faults out.old out.new) result }
     ensures ends { can_end compares_records result ≡ true }
 {
     let Ok(line) = verdict_line(alloc, &verdict) else {
         return Answer::OutOfMemory;
     };
     match write_all(out, &line) {
-        Ok(()) => answer_to(verdict),
+        Ok(()) => verdict_answer(verdict),
         Err(_) => Answer::WriteFault,
     }
 }
@@ -54,11 +55,8 @@ pub fn compare<S: Shelf, K: Sink>(
 ) -> Answer
     requires some { 2 ≤ length recorded.now }
     requires few { length recorded.now ≤ 8 }
-    ensures meets { Meets (compare_outcome
-        (map (known_bytes (S.sees shelf.old)) (map (λ name. name.now) recorded.now)))
-        (KnowsBytes (S.sees shelf.old) (map (λ name. name.now) recorded.now))
-        (Rose (S.sees shelf.old).faults (S.sees shelf.new).faults)
-        (Rose (K.faults out.old) (K.faults out.new)) (K.took out.old) (K.took out.new) result }
+    ensures meets { MeetsCopies compare_outcome (S.sees shelf.old) (S.sees shelf.new)
+        (map (λ name. name.now) recorded.now) (sink_run K.took K.faults out.old out.new) result }
     ensures ends { can_end compares_records result ≡ true }
     ensures asked { AsksPrefix (S.sees shelf.old) (S.sees shelf.new)
         (map (λ name. name.now) recorded.now) }
@@ -69,7 +67,7 @@ pub fn compare<S: Shelf, K: Sink>(
         Err(failure) => return Answer::from(failure),
     };
     match copies::compare(alloc, shelf, &slots) {
-        Ok(verdict) => print(alloc, verdict, out),
+        Ok(verdict) => print_verdict(alloc, verdict, out),
         Err(Stopped::Refused(bad)) => Answer::BadRecord {
             copy: bad.copy,
             fault: bad.fault,

@@ -3,6 +3,7 @@ ghost use Rattle.std.specs.Prelude.{◌≡◌, ◌≢◌, ◌+◌, ◌<◌, leng
 ghost use Rattle.det_io.specs.declared.failure.Failure.TheVariants as failures;
 ghost use Rattle.det_io.specs.Shelf.{Asks, AsksPrefix};
 ghost use Rattle.det_io.specs.Traffic.{ShelfTraffic, shelf_run, failure_of};
+ghost use Rattle.copies.specs.CompareCopies.{AreDifferent, AreGiven};
 ghost use Rattle.cli_answers.specs.Slots.{KeepsSlots};
 ghost use Rattle.cmd_records.specs.open_names.OpenedSlots.{Opened};
 
@@ -13,6 +14,10 @@ use std::alloc::Global;
 pub fn open_all<S: Shelf>(alloc: Global, names: &[&str], shelf: &mut S) -> Result<Vec<u32>, Failure>
     ensures opened { IfOk result (λ slots. Opened (S.sees shelf.old) (S.sees shelf.new)
         (map (λ name. name.now) names.now) slots.items) }
+    // What the calls that read copies require.
+    ensures given { IfOk result (λ slots. AreGiven (S.sees shelf.new) slots.items) }
+    ensures different { IfOk result (λ slots. AreDifferent slots.items) }
+    ensures many { IfOk result (λ slots. length slots.items ≡ length names.now) }
     ensures all { OnOk result (Asks (S.sees shelf.old) (S.sees shelf.new)
         (map (λ name. name.now) names.now)) }
     ensures asked { AsksPrefix (S.sees shelf.old) (S.sees shelf.new)

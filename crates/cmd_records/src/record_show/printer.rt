@@ -1,10 +1,9 @@
-//! `Printer`, which prints items one after another and shows them to an audience.
-ghost use Rattle.std.specs.Prelude.{◌≡◌, ◌<◌, ◌+◌, ◌++◌, ◌∷◌, [], ℕ, List, OnOk, length};
+//! `Printer`, which prints_item items one after another and shows them to an audience.
+ghost use Rattle.std.specs.Prelude.{◌≡◌, ◌<◌, ◌++◌, ◌∷◌, [], ℕ, List, OnOk, length};
 ghost use Rattle.record_grammar.specs.declared.place.Place.{Place};
 ghost use Rattle.record_grammar.specs.declared.item.Item.{Item};
 ghost use Rattle.record_grammar.specs.Places.{format_of};
 ghost use Rattle.record_view.specs.Shows.{ShowsParts, IsSpelling};
-ghost use Rattle.record_reader.specs.Kinds.{runs_of};
 ghost use Rattle.det_io.specs.Traffic.{SinkTraffic, sink_run, failure_in};
 ghost use Rattle.probes.specs.Reports.{AudienceState};
 ghost use Rattle.probes.specs.Shows.{seen};
@@ -17,7 +16,7 @@ use det_values::OutOfMemory;
 use probes::{Audience, Probe};
 use record_codec::decode_profile;
 use record_grammar::RecordFault;
-use record_reader::runs_of;
+use record_reader::{begins_runs, runs_of};
 use record_text::{ShowPart, put_frame_lines, put_header_lines};
 use record_view::{FrameKind, ItemKind, ItemView};
 use std::alloc::Global;
@@ -30,13 +29,15 @@ pub struct Printer {
     /// The lines of the last item that was printed. The buffer is used again.
     lines: Vec<u8>,
     presenter: Presenter,
+    /// Whether Init was read.
+    pub has_begun: bool,
     /// The number of Run frames so far.
     pub cycles: u32,
 }
 
 /// Whether the lines of an item of this kind are printed. A Run frame is that of cycle `number`,
 /// counted from 1.
-fn prints(part: ShowPart, number: u32, kind: ItemKind) -> bool
+fn prints_item(part: ShowPart, number: u32, kind: ItemKind) -> bool
     ensures { (place : Place) (len : ℕ) (bytes : List ℕ) (item : Item)
         → ShowsParts place kind len bytes item → result ≡ is_printed part number item }
 {
@@ -60,17 +61,20 @@ impl Printer {
     ghost use Rattle.record_reader.specs.ItemTaker.{IsNext, Wrote, Takes};
     ghost use Rattle.cmd_records.specs.record_show.PrintedItems.{AreShown, showing, lines_at};
     ghost use Rattle.cmd_records.specs.record_show.PrintedItems.{printed_of};
-    ghost use Rattle.cmd_records.specs.record_show.PrintedItems.{IsFailed};
+    ghost use Rattle.cmd_records.specs.record_show.PrintedItems.{IsFailed, Noted};
 
     /// A printer that has printed nothing. It allocates nothing.
     pub fn new(alloc: Global, part: ShowPart) -> Printer
-        ensures { (audience : AudienceState) → AreShown part audience audience result [] }
+        ensures new { (audience : AudienceState)
+            → AreShown result.part audience audience result [] }
+        ensures part { result.part ≡ part }
     {
         Printer {
             alloc,
             part,
             lines: Vec::new(alloc),
             presenter: Presenter::new(alloc),
+            has_begun: false,
             cycles: 0,
         }
     }
@@ -100,14 +104,23 @@ impl Printer {
         ensures kept { Kept self.old.part (seen (λ b. life (b.vtable, b.value)) audience.old)
             (seen (λ b. life (b.vtable, b.value)) audience.new) }
     {
-        self.cycles += runs_of(view.span.kind);
-        self.print(view, bytes, sink)?;
-        self.show(view, bytes, audience)?;
+        self.count(view.span.kind);
+        self.print_item(view, bytes, sink)?;
+        self.present_item(view, bytes, audience)?;
         Ok(())
     }
 
+    /// Counts an item of this kind.
+    fn count(&mut self, kind: ItemKind)
+        requires { self.old.cycles < 4294967295 }
+        ensures { Noted kind self.old self.new }
+    {
+        self.has_begun = begins_runs(kind) || self.has_begun;
+        self.cycles += runs_of(kind);
+    }
+
     /// Prints the lines of an item that is counted already, if the part has them.
-    fn print<K: Sink>(
+    fn print_item<K: Sink>(
         &mut self,
         view: ItemView,
         bytes: &[u8],
@@ -122,7 +135,7 @@ impl Printer {
             (failure_in result) }
         ensures same { self.new ≡ record self.old { lines = self.new.lines } }
     {
-        if !prints(self.part, self.cycles, view.span.kind) {
+        if !prints_item(self.part, self.cycles, view.span.kind) {
             return Ok(());
         }
         self.put(view, bytes)?;
@@ -145,7 +158,7 @@ impl Printer {
     }
 
     /// Shows an item to the audience, unless only one run is printed.
-    fn show(
+    fn present_item(
         &mut self,
         view: ItemView,
         bytes: &[u8],

@@ -62,7 +62,7 @@ pub fn show_run<S: Slots, K: Sink>(
 }
 
 /// Passes all items to a printer and an audience.
-fn show_items<S: Slots, K: Sink>(
+pub(crate) fn show_items<S: Slots, K: Sink>(
     reader: &mut ItemReader,
     shelf: &mut S,
     printer: &mut Printer,

@@ -31,7 +31,7 @@ fn put_dissenters(out: &mut Vec<u8>, dissenters: &[Dissenter]) -> Result<(), All
 }
 
 /// The line with the number of the majority's cycles, and a line for each dissenter.
-pub(crate) fn text_of(alloc: Global, vote: &Vote) -> Result<Vec<u8>, OutOfMemory>
+pub(crate) fn dissent_text(alloc: Global, vote: &Vote) -> Result<Vec<u8>, OutOfMemory>
     ensures { IfOk result (λ text. text.items ≡ dissent_text vote.now.cycles vote.now.dissent) }
 {
     let mut text = Vec::new(alloc);

@@ -1,24 +1,27 @@
 //! The commands `vote` and `vote --dissent` over names, around `voter::vote` over slots.
 ghost use Rattle.std.specs.Prelude.{◌≡◌, ◌≤◌, map, length, true, Ok, []};
-ghost use Rattle.det_io.specs.Count.{Rose};
 ghost use Rattle.det_io.specs.Shelf.{AsksPrefix};
 ghost use Rattle.det_io.specs.Sink.{Grew};
+ghost use Rattle.det_io.specs.Traffic.{sink_run};
 ghost use Rattle.cli_answers.specs.Ends.{can_end};
-ghost use Rattle.cli_answers.specs.Outcome.{Meets, KnowsBytes, known_bytes};
+ghost use Rattle.cli_answers.specs.Outcome.{Meets, KnowsBytes};
 ghost use Rattle.cli_answers.specs.Slots.{KeepsSlots};
-ghost use Rattle.cmd_records.specs.vote_command.Vote.{answer_of, dissent_text, vote_work};
+ghost use Rattle.cmd_records.specs.command_ends.Meeting.{MeetsCopies};
+ghost use Rattle.cmd_records.specs.command_ends.Results.{answer_by};
+ghost use Rattle.cmd_records.specs.vote_command.Vote.{dissent_text, vote_work};
 ghost use Rattle.cmd_records.specs.vote_command.Vote.{vote_outcome, dissent_outcome, VoteBreaksOff};
+ghost use Rattle.cmd_records.specs.vote_command.Vote.{split_answer};
 
 use crate::open_names::open_all;
-use crate::vote_command::text::text_of;
+use crate::vote_command::text::dissent_text;
 use crate::voter::{NoMajority, Vote};
 use cli_answers::Answer;
 use det_io::{Discard, Shelf, Sink, Stopped, write_all};
 use std::alloc::Global;
 
 /// The answer by the result of a vote.
-fn answer_of(voted: Result<Vote, Stopped<NoMajority>>) -> Answer
-    ensures is { result ≡ answer_of voted }
+fn vote_answer(voted: Result<Vote, Stopped<NoMajority>>) -> Answer
+    ensures is { result ≡ answer_by split_answer voted }
     ensures ends { can_end vote_work result ≡ true }
 {
     match voted {
@@ -41,16 +44,13 @@ pub fn vote<S: Shelf, K: Sink>(
 ) -> Answer
     requires some { 3 ≤ length recorded.now }
     requires few { length recorded.now ≤ 7 }
-    ensures meets { Meets (vote_outcome
-        (map (known_bytes (S.sees shelf.old)) (map (λ name. name.now) recorded.now)))
-        (KnowsBytes (S.sees shelf.old) (map (λ name. name.now) recorded.now))
-        (Rose (S.sees shelf.old).faults (S.sees shelf.new).faults)
-        (Rose (K.faults out.old) (K.faults out.new)) (K.took out.old) (K.took out.new) result }
+    ensures meets { MeetsCopies vote_outcome (S.sees shelf.old) (S.sees shelf.new)
+        (map (λ name. name.now) recorded.now) (sink_run K.took K.faults out.old out.new) result }
     ensures ends { can_end vote_work result ≡ true }
     ensures broken { result ≡ Answer.ReadFault
         → KnowsBytes (S.sees shelf.old) (map (λ name. name.now) recorded.now)
         → VoteBreaksOff (S.sees shelf.old) (S.sees shelf.new)
-        (map (λ name. name.now) recorded.now) (K.took out.old) (K.took out.new) }
+        (map (λ name. name.now) recorded.now) (sink_run K.took K.faults out.old out.new) }
     ensures asked { AsksPrefix (S.sees shelf.old) (S.sees shelf.new)
         (map (λ name. name.now) recorded.now) }
     ensures earlier { KeepsSlots (S.sees shelf.old) (S.sees shelf.new) }
@@ -59,19 +59,19 @@ pub fn vote<S: Shelf, K: Sink>(
         Ok(slots) => slots,
         Err(failure) => return Answer::from(failure),
     };
-    answer_of(crate::voter::vote(alloc, shelf, &slots, out))
+    vote_answer(crate::voter::vote(alloc, shelf, &slots, out))
 }
 
 /// Prints how many cycles the majority's record has, and which copies dissent from it.
-fn print<K: Sink>(alloc: Global, vote: &Vote, out: &mut K) -> Answer
+fn print_dissent<K: Sink>(alloc: Global, vote: &Vote, out: &mut K) -> Answer
     ensures meets { Meets (record {
       answer = Answer.Done;
       bytes = dissent_text vote.now.cycles vote.now.dissent;
     }) (Unit {0}) ⊥
-        (Rose (K.faults out.old) (K.faults out.new)) (K.took out.old) (K.took out.new) result }
+        (sink_run K.took K.faults out.old out.new) result }
     ensures ends { can_end vote_work result ≡ true }
 {
-    let Ok(text) = text_of(alloc, vote) else {
+    let Ok(text) = dissent_text(alloc, vote) else {
         return Answer::OutOfMemory;
     };
     match write_all(out, &text) {
@@ -91,11 +91,8 @@ pub fn vote_dissent<S: Shelf, K: Sink>(
 ) -> Answer
     requires some { 3 ≤ length recorded.now }
     requires few { length recorded.now ≤ 7 }
-    ensures meets { Meets (dissent_outcome
-        (map (known_bytes (S.sees shelf.old)) (map (λ name. name.now) recorded.now)))
-        (KnowsBytes (S.sees shelf.old) (map (λ name. name.now) recorded.now))
-        (Rose (S.sees shelf.old).faults (S.sees shelf.new).faults)
-        (Rose (K.faults out.old) (K.faults out.new)) (K.took out.old) (K.took out.new) result }
+    ensures meets { MeetsCopies dissent_outcome (S.sees shelf.old) (S.sees shelf.new)
+        (map (λ name. name.now) recorded.now) (sink_run K.took K.faults out.old out.new) result }
     ensures ends { can_end vote_work result ≡ true }
     ensures broken { result ≡ Answer.ReadFault → Grew (K.took out.old) (K.took out.new) [] }
     ensures asked { AsksPrefix (S.sees shelf.old) (S.sees shelf.new)
@@ -107,7 +104,7 @@ pub fn vote_dissent<S: Shelf, K: Sink>(
         Err(failure) => return Answer::from(failure),
     };
     match crate::voter::vote(alloc, shelf, &slots, &mut Discard) {
-        Ok(vote) => print(alloc, &vote, out),
-        Err(stop) => answer_of(Err(stop)),
+        Ok(vote) => print_dissent(alloc, &vote, out),
+        Err(stop) => vote_answer(Err(stop)),
     }
 }

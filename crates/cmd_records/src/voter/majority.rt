@@ -26,22 +26,22 @@ pub struct Holders {
 }
 
 /// Whether two copies hold equal rows. A fault equals nothing, and a copy that left holds no row.
-fn are_same(voter: &Voter, other: &Voter) -> bool
+fn hold_same_row(voter: &Voter, other: &Voter) -> bool
     requires { (place : Place) × (row more : Option Row) × HoldsRow place voter.now row
         × HoldsRow place other.now more }
     ensures { (place : Place) (row more : Option Row) → HoldsRow place voter.now row
         → HoldsRow place other.now more → result ≡ same_row row more }
 {
     match voter.row {
-        Some(RowView::Item(view)) => is_item(&voter.reader, view, other),
-        Some(RowView::Whole) => is_whole(other),
+        Some(RowView::Item(view)) => holds_item(&voter.reader, view, other),
+        Some(RowView::Whole) => holds_record_end(other),
         Some(RowView::Fault) => false,
         None => false,
     }
 }
 
 /// Whether a copy holds the item that this reader read last.
-fn is_item(reader: &ItemReader, view: ItemView, other: &Voter) -> bool
+fn holds_item(reader: &ItemReader, view: ItemView, other: &Voter) -> bool
     requires { (place : Place) × (x : Item) × (more : Option Row) × HoldsAt place reader.now view x
         × HoldsRow place other.now more }
     ensures { (place : Place) (x : Item) (more : Option Row) → HoldsAt place reader.now view x
@@ -49,7 +49,7 @@ fn is_item(reader: &ItemReader, view: ItemView, other: &Voter) -> bool
 {
     match other.row {
         Some(RowView::Item(other_view)) => {
-            are_same_items(reader, view, &other.reader, other_view)
+            hold_same_item(reader, view, &other.reader, other_view)
         }
         Some(RowView::Whole) => false,
         Some(RowView::Fault) => false,
@@ -57,7 +57,7 @@ fn is_item(reader: &ItemReader, view: ItemView, other: &Voter) -> bool
     }
 }
 
-fn is_whole(other: &Voter) -> bool
+fn holds_record_end(other: &Voter) -> bool
     ensures { (place : Place) (more : Option Row) → HoldsRow place other.now more
         → result ≡ same_row (Some rows.Whole) more }
 {
@@ -70,7 +70,7 @@ fn is_whole(other: &Voter) -> bool
 }
 
 /// Whether two readers read equal items last, at the same place.
-fn are_same_items(
+fn hold_same_item(
     reader: &ItemReader,
     view: ItemView,
     other: &ItemReader,
@@ -90,7 +90,7 @@ fn are_same_items(
 }
 
 /// Whether a copy holds a row that can equal another one.
-fn may_be_held(voter: &Voter) -> bool
+fn can_win_majority(voter: &Voter) -> bool
     ensures { (place : Place) (row : Option Row) → HoldsRow place voter.now row
         → result ≡ same_row row row }
 {
@@ -103,7 +103,7 @@ fn may_be_held(voter: &Voter) -> bool
 }
 
 /// Whether two copies hold equal rows, by their places. No row is compared with itself.
-fn holds_row_of(voters: &[Voter], first: usize, at: usize) -> bool
+fn holds_row_of_copy(voters: &[Voter], first: usize, at: usize) -> bool
     requires first { first < length voters.now }
     requires at { at < length voters.now }
     requires rows { (place : Place) × (more : List (Option Row)) × AreHeld place voters.now more }
@@ -111,12 +111,12 @@ fn holds_row_of(voters: &[Voter], first: usize, at: usize) -> bool
         → result ≡ same_row (get_or more first None) (get_or more at None) }
 {
     if at == first {
-        return may_be_held(&voters[first]);
+        return can_win_majority(&voters[first]);
     }
-    are_same(&voters[first], &voters[at])
+    hold_same_row(&voters[first], &voters[at])
 }
 
-fn one_if(holds: bool) -> usize
+fn vote_if(holds: bool) -> usize
     ensures { result ≡ cond holds 1 0 }
 {
     if holds { 1 } else { 0 }
@@ -134,16 +134,16 @@ fn holders_of(voters: &[Voter], first: usize) -> Holders
     let mut same = [false; 7];
     let mut count = 0;
     'voters: for at in 0..voters.len() {
-        let holds = holds_row_of(voters, first, at);
+        let holds = holds_row_of_copy(voters, first, at);
         same[at] = holds;
-        count += one_if(holds);
+        count += vote_if(holds);
     }
     Holders { first, same, count }
 }
 
 /// The copies that hold a row which more than half of all copies hold. None if there is no such
 /// row.
-pub fn most_held(voters: &[Voter]) -> Option<Holders>
+pub fn majority_holders(voters: &[Voter]) -> Option<Holders>
     requires few { length voters.now ≤ 7 }
     requires rows { (place : Place) × (more : List (Option Row)) × AreHeld place voters.now more }
     ensures { (place : Place) (more : List (Option Row)) → AreHeld place voters.now more

@@ -62,7 +62,7 @@ impl Voter {
             self.row = None;
             return Ok(());
         }
-        let row = next_row(&mut self.reader, shelf)?;
+        let row = next_voter_row(&mut self.reader, shelf)?;
         self.row = Some(row);
         Ok(())
     }
@@ -81,7 +81,7 @@ impl Voter {
 }
 
 /// Reads the next row of a record.
-fn next_row<S: Slots>(reader: &mut ItemReader, shelf: &mut S) -> Result<RowView, Failure>
+fn next_voter_row<S: Slots>(reader: &mut ItemReader, shelf: &mut S) -> Result<RowView, Failure>
     requires { slot_of reader.old < (S.sees shelf.old).slots }
     ensures row { (first : ShelfState) (given : List Item) (slot : ℕ)
         → IsReaderAfter first (S.sees shelf.old) given slot reader.old
@@ -94,11 +94,11 @@ fn next_row<S: Slots>(reader: &mut ItemReader, shelf: &mut S) -> Result<RowView,
     ensures traffic { ShelfTraffic (shelf_run S.sees S.stays shelf.old shelf.new)
         (failure_of result) }
 {
-    row_in(reader.next(shelf))
+    vote_row(reader.next(shelf))
 }
 
 /// The row of what a reader returned. A record's fault is a row, not an error.
-fn row_in(answer: Result<Option<ItemView>, Stopped<RecordFault>>) -> Result<RowView, Failure>
+fn vote_row(answer: Result<Option<ItemView>, Stopped<RecordFault>>) -> Result<RowView, Failure>
     ensures { result ≡ view_answer answer }
 {
     match answer {
@@ -131,7 +131,7 @@ pub fn voters_at(alloc: Global, slots: &[u32]) -> Result<Vec<Voter>, OutOfMemory
 }
 
 /// Reads the next row of each copy that hasn't left.
-pub fn read_rows<S: Slots>(voters: &mut Vec<Voter>, shelf: &mut S) -> Result<(), Failure>
+pub fn read_voter_rows<S: Slots>(voters: &mut Vec<Voter>, shelf: &mut S) -> Result<(), Failure>
     requires given { AreGiven (S.sees shelf.old) (map voter_slot voters.old.items) }
     ensures rows { (first : ShelfState) (given : List Item) (slots : List ℕ)
         → AreDifferent slots → AreVoters first (S.sees shelf.old) given slots voters.old.items

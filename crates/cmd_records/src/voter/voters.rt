@@ -17,8 +17,8 @@ ghost use Rattle.cmd_records.specs.voter.VotersState.{Stand, RowTaken, IsHeldIn,
 ghost use Rattle.cmd_records.specs.voter.VotersState.{Writes};
 ghost use Rattle.cmd_records.specs.voter.VotersState.{IsVoteOf, dissenter, dissenters};
 
-use crate::voter::majority::{mark_leavers, most_held};
-use crate::voter::voter_rows::{RowView, Voter, read_rows, voters_at};
+use crate::voter::majority::{majority_holders, mark_leavers};
+use crate::voter::voter_rows::{RowView, Voter, read_voter_rows, voters_at};
 use crate::voter::{Dissent, Dissenter, NoMajority, Vote};
 use copies::runs_of;
 use det_io::{Sink, Slots, Stopped, write_all};
@@ -82,12 +82,12 @@ impl Voters {
         ensures traffic { ShelfTraffic (shelf_run S.sees S.stays shelf.old shelf.new)
             (failure_in result) }
     {
-        read_rows(&mut self.voters, shelf)?;
-        let Some(holders) = most_held(&self.voters) else {
+        read_voter_rows(&mut self.voters, shelf)?;
+        let Some(holders) = majority_holders(&self.voters) else {
             return Err(Stopped::Refused(NoMajority { row: self.rows }));
         };
         mark_leavers(&mut self.voters, &holders.same, self.rows);
-        let item = held_in(holders.first, self.voters[holders.first].row);
+        let item = majority_item(holders.first, self.voters[holders.first].row);
         self.count(item);
         Ok(item)
     }
@@ -114,7 +114,7 @@ impl Voters {
             (failure_in result) }
     {
         let _events = events_at(item.view.place);
-        write_bytes(self.voters[item.copy].reader.bytes(item.view), sink)
+        write_majority_row(self.voters[item.copy].reader.bytes(item.view), sink)
     }
 
     /// The result of the vote at the end of the majority's record.
@@ -133,7 +133,7 @@ impl Voters {
 }
 
 /// The item of the row that this copy holds. None at the end of a whole record.
-fn held_in(copy: usize, row: Option<RowView>) -> Option<HeldItem>
+fn majority_item(copy: usize, row: Option<RowView>) -> Option<HeldItem>
     ensures { result ≡ held_in copy row }
 {
     match row {
@@ -143,7 +143,7 @@ fn held_in(copy: usize, row: Option<RowView>) -> Option<HeldItem>
 }
 
 /// Writes these bytes. The second clause states that a slice of `u8` consists of bytes.
-fn write_bytes<K: Sink>(bytes: &[u8], sink: &mut K) -> Result<(), Stopped<NoMajority>>
+fn write_majority_row<K: Sink>(bytes: &[u8], sink: &mut K) -> Result<(), Stopped<NoMajority>>
     ensures writes { Writes result bytes.now (sink_run K.took K.faults sink.old sink.new) }
     ensures bytes { AreBytes bytes.now }
     ensures traffic { SinkTraffic (sink_run K.took K.faults sink.old sink.new)
@@ -161,13 +161,13 @@ fn dissent_of(alloc: Global, voters: &[Voter]) -> Result<Dissent, OutOfMemory>
 {
     let mut dissent = Dissent::new(alloc);
     'voters: for index in 0..voters.len() {
-        add_left(&mut dissent, index as u32, voters[index].left)?;
+        add_dissenter(&mut dissent, index as u32, voters[index].left)?;
     }
     Ok(dissent)
 }
 
 /// Adds a copy, if it left.
-fn add_left(dissent: &mut Dissent, copy: u32, left: Option<u32>) -> Result<(), OutOfMemory>
+fn add_dissenter(dissent: &mut Dissent, copy: u32, left: Option<u32>) -> Result<(), OutOfMemory>
     requires { length dissent.old + length (dissenter left copy) ≤ 3 }
     ensures { OnOk result (dissent.new ≡ dissent.old ++ dissenter left copy) }
 {

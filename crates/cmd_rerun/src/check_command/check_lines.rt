@@ -1,13 +1,13 @@
 //! The output of `check`: the line of a verdict, then the reports.
 ghost use Rattle.std.specs.Prelude.{◌≡◌, ◌++◌, true, Ok, IfOk, OnOk};
-ghost use Rattle.det_io.specs.Count.{Rose};
+ghost use Rattle.det_io.specs.Traffic.{sink_run};
 ghost use Rattle.cli_answers.specs.Ends.{can_end, compares_runs};
 ghost use Rattle.cli_answers.specs.Outcome.{Meets};
 ghost use Rattle.cmd_rerun.specs.check_command.Check.{answer_to, check_line, outcome_by};
 
 use cli_answers::Answer;
 use copies::Difference;
-use copies::verdict_text::put_place;
+use copies::verdict_text::put_difference_place;
 use det_io::{Sink, write_all};
 use det_values::OutOfMemory;
 use record_text::{put_number_line, put_str};
@@ -30,7 +30,7 @@ fn put_departs_line(out: &mut Vec<u8>, at: Difference) -> Result<(), OutOfMemory
         ≡ out.old.items ++ check_line (CheckVerdict.Departs at)) }
 {
     put_str(out, "departs ")?;
-    put_place(out, at)?;
+    put_difference_place(out, at)?;
     put_str(out, "\n")?;
     Ok(())
 }
@@ -65,7 +65,7 @@ pub(crate) fn print_verdict<K: Sink>(
     out: &mut K,
 ) -> Answer
     ensures meets { Meets (outcome_by (Ok verdict) reports.now) (Unit {0}) ⊥
-        (Rose (K.faults out.old) (K.faults out.new)) (K.took out.old) (K.took out.new) result }
+        (sink_run K.took K.faults out.old out.new) result }
     ensures ends { can_end compares_runs result ≡ true }
 {
     let Ok(lines) = lines_of(alloc, verdict, reports) else {

@@ -2,6 +2,7 @@
 ghost use Rattle.std.specs.Prelude.{◌≡◌, ◌≢◌, ℕ, List, ◌∷◌, [], ◌++◌, true, length, None, Some};
 ghost use Rattle.det_io.specs.Count.{Rose};
 ghost use Rattle.det_io.specs.Shelf.{AsksPrefix, Reads};
+ghost use Rattle.det_io.specs.Traffic.{sink_run};
 ghost use Rattle.record_grammar.specs.declared.item.Item.TheVariants as items;
 ghost use Rattle.record_reader.specs.Frames.{IsOpen, StandsFor, slot_of};
 ghost use Rattle.probes.specs.Shows.{seen};
@@ -43,7 +44,7 @@ where
         → Meets (checked run.kind run.profile (seen (λ b. life (b.vtable, b.value)) audience.old)
         (read ++ rest)) ((S.sees shelf.old).left (slot_of run.frames) ≡ Some rest)
         (Rose (S.sees shelf.old).faults (S.sees shelf.new).faults)
-        (Rose (K.faults out.old) (K.faults out.new)) (K.took out.old) (K.took out.new) result }
+        (sink_run K.took K.faults out.old out.new) result }
     ensures ends { can_end compares_runs result ≡ true }
     ensures reads { (read : List ℕ)
         × Reads (S.sees shelf.old) (S.sees shelf.new) (slot_of run.frames) read }
@@ -100,7 +101,7 @@ where
         (known_bytes (S.sees shelf.old) recorded.now)) (KnowsBytes (S.sees shelf.old) (recorded.now
         ∷ []))
         (Rose (S.sees shelf.old).faults (S.sees shelf.new).faults)
-        (Rose (K.faults out.old) (K.faults out.new)) (K.took out.old) (K.took out.new) result }
+        (sink_run K.took K.faults out.old out.new) result }
     ensures ends { can_end compares_runs result ≡ true }
     ensures asked { AsksPrefix (S.sees shelf.old) (S.sees shelf.new) (recorded.now ∷ []) }
     ensures earlier { KeepsSlots (S.sees shelf.old) (S.sees shelf.new) }

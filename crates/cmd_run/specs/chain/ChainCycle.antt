@@ -12,7 +12,7 @@ use Rattle.cycle_engine.specs.Frames.{frame_of, state_of}
 use Rattle.record_grammar.specs.Spelling.{spelled_frame}
 use Rattle.recorder.specs.declared.run_writer.recording.Recording.{Recording}
 use Rattle.recorder.specs.run_writer.Recording.{IsRecordingAfter}
-use Rattle.cmd_run.specs.chain.OutputSamples.{derived_input}
+use Rattle.cmd_run.specs.chain.OutputSamples.{chained_input}
 use Rattle.cmd_run.specs.chain.SecondClient.{passed_on}
 use Rattle.cmd_run.specs.chain.ChainEnds.{Sinks, BothGrew, BothGrewByPrefix}
 
@@ -50,7 +50,7 @@ module _ {S G E L P : Type 0} (m : Meaning S G E L P) {T H F M Q : Type 0} (n : 
     module _ (first second : ProfileValue) (given : List CycleInput) (input : CycleInput) where
       -- what the first client's cycle gives the second
       abbrev pub next_input : CycleInput
-      next_input = derived_input (length second.events) (next_run m first given input)
+      next_input = chained_input (length second.events) (next_run m first given input)
 
       -- the two frames of the cycle after these inputs
       abbrev pub first_frame : List ℕ

@@ -6,7 +6,7 @@ use Rattle.det_values.specs.Values.{ProfileValue}
 use Rattle.det_values.specs.declared.frames.CycleInput.{CycleInput}
 use Rattle.det_io.specs.Shelf.{Reads, IsAtEnd}
 use Rattle.det_io.specs.Sink.{Grew, GrewByPrefix}
-use Rattle.det_io.specs.Traffic.{ShelfRun, SinkRun}
+use Rattle.det_io.specs.Traffic.{ShelfRun, SinkRun, sink_run}
 use Rattle.det_io.specs.declared.failure.Failure.TheVariants.{Read, Write, OutOfMemory}
 use Rattle.det_io.specs.declared.failure.Stopped.{Stopped}
 use Rattle.det_io.specs.declared.failure.Stopped.TheVariants.{Refused, Failed}
@@ -24,6 +24,12 @@ use Rattle.cmd_run.specs.chain.SecondClient.{passed_on, second_with, second_of}
 pub record Sinks : Type 1 where
   pub first : SinkRun
   pub second : SinkRun
+
+-- the runs of both, from the members of their types
+abbrev pub sink_runs : {K L : Type 0} → (K → List ℕ → Type 0) → (K → ℕ) → K → K
+    → (L → List ℕ → Type 0) → (L → ℕ) → L → L → Sinks
+sink_runs took faults old new took2 faults2 old2 new2 =
+    record { first = sink_run took faults old new; second = sink_run took2 faults2 old2 new2 }
 
 -- each took all of a list, or a prefix of it
 pub record BothGrew (sinks : Sinks) (bytes others : List ℕ) : Type 0 where

@@ -32,10 +32,10 @@ samples_of events (Finished elements output) = samples_from 0 events output
 samples_of events (Refused at) = []
 
 -- a cycle's input for a second client with this number of events, at the same time
-abbrev pub derived_input : ℕ → RunFrame → CycleInput
-derived_input events run = record run.input { samples = samples_of events run.outcome }
+abbrev pub chained_input : ℕ → RunFrame → CycleInput
+chained_input events run = record run.input { samples = samples_of events run.outcome }
 
 -- one input for each cycle of a first client
 abbrev pub derived : {S G E L P : Type 0} → Meaning S G E L P → ProfileValue → List CycleInput
     → ℕ → List CycleInput
-derived m profile inputs events = map (derived_input events) (runs m profile inputs)
+derived m profile inputs events = map (chained_input events) (runs m profile inputs)

@@ -2,29 +2,16 @@
 use Rattle.std.specs.Prelude.{ℕ, Bool, List, [], ◌∷◌, length, Option, Result, Ok, Err}
 use Rattle.std.specs.Option.{unwrap_or}
 use Rattle.det_values.specs.Values.{ProfileValue}
-use Rattle.det_io.specs.declared.failure.Stopped.{Stopped}
-use Rattle.det_io.specs.declared.failure.Stopped.TheVariants.{Refused, Failed}
 use Rattle.job.specs.Meaning.{Meaning}
 use Rattle.jobs.specs.Kinds.{by_kind}
-use Rattle.stimulus.specs.declared.stimulus_item.StimulusFault.{StimulusFault}
 use Rattle.stimulus.specs.Reading.{ending}
-use Rattle.cmd_run.specs.declared.chain.chain_counts.ChainCounts.{ChainCounts}
 use Rattle.cmd_run.specs.chain.SecondClient.{second_of}
 use Rattle.manifest.specs.Values.{ManifestValue}
 use Rattle.manifest.specs.Profiles.{profile_of}
 use Rattle.cli_answers.specs.declared.answer.BadManifest.{BadManifest}
-use Rattle.cli_answers.specs.declared.answer.Answer.{Answer}
-use Rattle.cli_answers.specs.declared.answer.Answer.TheVariants as answers
-use Rattle.cli_answers.specs.Answers.{failed}
 use Rattle.cli_answers.specs.Outcome.{Outcome}
 use Rattle.run_setup.specs.Setup.{setup_of, with_manifest}
 use Rattle.cmd_run.specs.record_command.Outcomes.{answer_to, record_names}
-
--- the answer of the command for the result of a chain
-abbrev pub answer_of : Result ChainCounts (Stopped StimulusFault) → Answer
-answer_of (Ok counts) = answers.Done
-answer_of (Err (Refused fault)) = answers.BadStimulus fault.line
-answer_of (Err (Failed failure)) = failed failure
 
 -- the second client's record of a text, also if a bad line ends it
 abbrev pub chained : {S G E L P : Type 0} → Meaning S G E L P → ProfileValue → {T H F M Q : Type 0}
@@ -36,8 +23,7 @@ chained m first n second text = record {
 
 -- the clients of two manifests, by the kinds of their jobs
 abbrev pub chained_by : ℕ → List ℕ → (first second : ManifestValue) → Outcome
-chained_by seed stimulus first second =
-    by_kind (λ S G E L P m. by_kind (λ T H F M Q n.
+chained_by seed stimulus first second = by_kind (λ S G E L P m. by_kind (λ T H F M Q n.
     chained m (profile_of first seed) n (profile_of second seed) stimulus) second.kind) first.kind
 
 -- the names that `chain` opens: none after a manifest that is refused

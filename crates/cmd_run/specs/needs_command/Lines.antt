@@ -17,14 +17,12 @@ platform_line name = codes "platform " ++ (unwrap_or name (codes "none") ++ code
 -- the needs of an initialisation or of a run, each line after that keyword
 abbrev pub needs_of : List ℕ → Option Needs → List ℕ
 needs_of word None = word ++ codes " none\n"
-needs_of word (Some needs) =
-    word ++ (number_line (codes " instructions") needs.instructions
+needs_of word (Some needs) = word ++ (number_line (codes " instructions") needs.instructions
     ++ (word ++ (number_line (codes " sequential_begin") needs.sequential_begin
     ++ (word ++ (number_line (codes " sequential_end") needs.sequential_end
     ++ (word ++ number_line (codes " speedup") needs.speedup))))))
 
 abbrev pub needs_lines : ManifestValue → List ℕ
-needs_lines m =
-    job_line m.kind ++ (number_line (codes "cycle_time") m.cycle_time
+needs_lines m = job_line m.kind ++ (number_line (codes "cycle_time") m.cycle_time
     ++ (number_line (codes "workers") m.workers ++ (platform_line m.platform
     ++ (needs_of (codes "init") m.init_needs ++ needs_of (codes "run") m.run_needs))))

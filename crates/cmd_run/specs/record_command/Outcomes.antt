@@ -14,7 +14,6 @@ use Rattle.jobs.specs.Kinds.{by_kind}
 use Rattle.stimulus.specs.declared.stimulus_item.StimulusFault.{StimulusFault}
 use Rattle.stimulus.specs.Reading.{Ending, Terminated, BadLine, ending}
 use Rattle.recorder.specs.Record.{record_of}
-use Rattle.recorder.specs.declared.run_writer.counts.Counts.{Counts}
 use Rattle.manifest.specs.Values.{ManifestValue}
 use Rattle.manifest.specs.Profiles.{profile_of}
 use Rattle.cli_answers.specs.declared.answer.BadManifest.{BadManifest}
@@ -37,11 +36,11 @@ abbrev pub answer_to : Ending → Answer
 answer_to Terminated = answers.Done
 answer_to (BadLine line) = answers.BadStimulus line
 
--- the answer for the result of a recording
-abbrev pub answer_of : Result Counts (Stopped StimulusFault) → Answer
-answer_of (Ok counts) = answers.Done
-answer_of (Err (Refused fault)) = answers.BadStimulus fault.line
-answer_of (Err (Failed failure)) = failed failure
+-- the answer for the result of a recording or of a chain
+abbrev pub stimulus_answer : {C : Type 0} → Result C (Stopped StimulusFault) → Answer
+stimulus_answer (Ok counts) = answers.Done
+stimulus_answer (Err (Refused fault)) = answers.BadStimulus fault.line
+stimulus_answer (Err (Failed failure)) = failed failure
 
 module _ {S G E L P : Type 0} (m : Meaning S G E L P) (profile : ProfileValue) where
   -- the record of a text, also if a bad line ends it

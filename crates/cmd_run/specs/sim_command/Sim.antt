@@ -21,8 +21,8 @@ use Rattle.record_text.specs.declared.summary_lines.Summary.{Summary}
 use Rattle.cli_answers.specs.Outcome.{Outcome, text_outcome}
 
 -- an event that keeps only its newest sample
-abbrev pub newest_event : List ℕ → EventSpecValue
-newest_event name = record { capacity = 1; name = name; policy = Last }
+abbrev pub sim_event : List ℕ → EventSpecValue
+sim_event name = record { capacity = 1; name = name; policy = Last }
 
 -- a cloud with the number as its seed; 10 ms; 10,000 particles, a spread of 1,000, a new seed in
 -- each 50th cycle, and no distance too far
@@ -33,7 +33,7 @@ sim_profile number = record {
   seed = number;
   cycle_time = 10000000;
   params = pos 10000 ∷ pos 1000 ∷ pos 50 ∷ pos 4000000000000 ∷ [];
-  events = newest_event (codes "x") ∷ newest_event (codes "y") ∷ newest_event (codes "hold") ∷ [];
+  events = sim_event (codes "x") ∷ sim_event (codes "y") ∷ sim_event (codes "hold") ∷ [];
 }
 
 module _ {S G E L P : Type 0} (m : Meaning S G E L P) (profile : ProfileValue) (text : List ℕ) where

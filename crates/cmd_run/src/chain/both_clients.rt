@@ -3,23 +3,23 @@ ghost use Rattle.std.specs.Prelude.{◌≡◌, ◌<◌, ◌+◌, List, [], lengt
 ghost use Rattle.std.specs.List.{All};
 ghost use Rattle.det_values.specs.declared.frames.CycleInput.{CycleInput as Input};
 ghost use Rattle.det_values.specs.declared.frames.Frame.TheVariants.{Terminate};
-ghost use Rattle.det_io.specs.Traffic.{sink_run, failure_of};
+ghost use Rattle.det_io.specs.Traffic.{failure_of};
 ghost use Rattle.record_grammar.specs.Spelling.{spelled_frame};
 ghost use Rattle.recorder.specs.run_writer.Record.{opening};
 ghost use Rattle.recorder.specs.run_writer.Recording.{IsNew, IsRecordingAfter};
-ghost use Rattle.cmd_run.specs.chain.ChainEnds.{BothGrew, Counted};
+ghost use Rattle.cmd_run.specs.chain.ChainEnds.{sink_runs, BothGrew, Counted};
 ghost use Rattle.cmd_run.specs.chain.ChainCycle.{AreBothAfter, BothTraffic, CutOff, Linked};
 ghost use Rattle.cmd_run.specs.chain.ChainCycle.{first_frame, second_frame};
 
 use crate::chain::ChainCounts;
-use crate::chain::output_samples::derived_input;
+use crate::chain::output_samples::chained_input;
 use det_io::{Failure, Sink};
 use det_values::CycleInput;
 use job::{Job, Pool};
 use recorder::run_writer::Runner;
 
 /// Writes both headers and the frames up to Init.
-pub(crate) fn open_both<A, P, B, Q, K, L>(
+pub(crate) fn open_chain<A, P, B, Q, K, L>(
     first: &mut Runner<A, P>,
     second: &mut Runner<B, Q>,
     first_sink: &mut K,
@@ -35,17 +35,13 @@ where
     ensures first { OnOk result (IsRecordingAfter A.meaning first.new.recording []) }
     ensures second { OnOk result (IsRecordingAfter B.meaning second.new.recording []) }
     ensures grew { OnOk result (BothGrew
-        (record {
-          first = sink_run K.took K.faults first_sink.old first_sink.new;
-          second = sink_run L.took L.faults second_sink.old second_sink.new;
-        })
+        (sink_runs K.took K.faults first_sink.old first_sink.new
+        L.took L.faults second_sink.old second_sink.new)
         (opening A.meaning first.old.recording.profile)
         (opening B.meaning second.old.recording.profile)) }
     ensures cut { IfErr result (λ failure. CutOff failure
-        (record {
-          first = sink_run K.took K.faults first_sink.old first_sink.new;
-          second = sink_run L.took L.faults second_sink.old second_sink.new;
-        })
+        (sink_runs K.took K.faults first_sink.old first_sink.new
+        L.took L.faults second_sink.old second_sink.new)
         (opening A.meaning first.old.recording.profile)
         (opening B.meaning second.old.recording.profile)) }
     ensures first_profile { OnOk result
@@ -53,10 +49,8 @@ where
     ensures second_profile { OnOk result
         (second.new.recording.profile ≡ second.old.recording.profile) }
     ensures traffic { BothTraffic
-        (record {
-          first = sink_run K.took K.faults first_sink.old first_sink.new;
-          second = sink_run L.took L.faults second_sink.old second_sink.new;
-        }) (failure_of result) }
+        (sink_runs K.took K.faults first_sink.old first_sink.new
+        L.took L.faults second_sink.old second_sink.new) (failure_of result) }
 {
     first.recording.open(first_sink)?;
     second.recording.open(second_sink)?;
@@ -65,7 +59,7 @@ where
 
 /// Runs the next cycle of both clients and writes their frames. The second client's input is the
 /// output of the first one's cycle. Returns the input, so that its memory can be used again.
-pub(crate) fn cycle_both<A, P, B, Q, K, L>(
+pub(crate) fn cycle_chain<A, P, B, Q, K, L>(
     first: &mut Runner<A, P>,
     second: &mut Runner<B, Q>,
     input: CycleInput,
@@ -88,17 +82,13 @@ where
         → AreBothAfter A.meaning B.meaning first.old.recording second.old.recording given
         → Linked A.meaning B.meaning first.old.recording.profile second.old.recording.profile given
         input first.new.recording second.new.recording
-        (record {
-          first = sink_run K.took K.faults first_sink.old first_sink.new;
-          second = sink_run L.took L.faults second_sink.old second_sink.new;
-        })) }
+        (sink_runs K.took K.faults first_sink.old first_sink.new
+        L.took L.faults second_sink.old second_sink.new)) }
     ensures cut { IfErr result (λ failure. (given : List Input)
         → AreBothAfter A.meaning B.meaning first.old.recording second.old.recording given
         → CutOff failure
-        (record {
-          first = sink_run K.took K.faults first_sink.old first_sink.new;
-          second = sink_run L.took L.faults second_sink.old second_sink.new;
-        })
+        (sink_runs K.took K.faults first_sink.old first_sink.new
+        L.took L.faults second_sink.old second_sink.new)
         (first_frame A.meaning B.meaning first.old.recording.profile
         second.old.recording.profile given input)
         (second_frame A.meaning B.meaning first.old.recording.profile
@@ -110,14 +100,12 @@ where
     ensures second_profile { OnOk result
         (second.new.recording.profile ≡ second.old.recording.profile) }
     ensures traffic { BothTraffic
-        (record {
-          first = sink_run K.took K.faults first_sink.old first_sink.new;
-          second = sink_run L.took L.faults second_sink.old second_sink.new;
-        }) (failure_of result) }
+        (sink_runs K.took K.faults first_sink.old first_sink.new
+        L.took L.faults second_sink.old second_sink.new) (failure_of result) }
 {
     let run = first.recording.cycle(&mut first.pool, input, first_sink)?;
     let events = second.recording.events();
-    let passed = derived_input(second.recording.alloc(), &run, events)?;
+    let passed = chained_input(second.recording.alloc(), &run, events)?;
     let followed = second
         .recording
         .cycle(&mut second.pool, passed, second_sink)?;
@@ -126,7 +114,7 @@ where
 }
 
 /// Ends both runs and writes both Terminate frames.
-pub(crate) fn close_both<A, P, B, Q, K, L>(
+pub(crate) fn close_chain<A, P, B, Q, K, L>(
     first: &mut Runner<A, P>,
     second: &mut Runner<B, Q>,
     first_sink: &mut K,
@@ -142,24 +130,18 @@ where
         → Counted A.meaning first.old.recording.profile B.meaning second.old.recording.profile
         counts given) }
     ensures grew { OnOk result (BothGrew
-        (record {
-          first = sink_run K.took K.faults first_sink.old first_sink.new;
-          second = sink_run L.took L.faults second_sink.old second_sink.new;
-        })
+        (sink_runs K.took K.faults first_sink.old first_sink.new
+        L.took L.faults second_sink.old second_sink.new)
         (spelled_frame first.old.recording.profile.format Terminate)
         (spelled_frame second.old.recording.profile.format Terminate)) }
     ensures cut { IfErr result (λ failure. CutOff failure
-        (record {
-          first = sink_run K.took K.faults first_sink.old first_sink.new;
-          second = sink_run L.took L.faults second_sink.old second_sink.new;
-        })
+        (sink_runs K.took K.faults first_sink.old first_sink.new
+        L.took L.faults second_sink.old second_sink.new)
         (spelled_frame first.old.recording.profile.format Terminate)
         (spelled_frame second.old.recording.profile.format Terminate)) }
     ensures traffic { BothTraffic
-        (record {
-          first = sink_run K.took K.faults first_sink.old first_sink.new;
-          second = sink_run L.took L.faults second_sink.old second_sink.new;
-        }) (failure_of result) }
+        (sink_runs K.took K.faults first_sink.old first_sink.new
+        L.took L.faults second_sink.old second_sink.new) (failure_of result) }
 {
     let one = first.recording.close(first_sink)?;
     let other = second.recording.close(second_sink)?;

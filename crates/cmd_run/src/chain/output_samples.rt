@@ -3,7 +3,7 @@ ghost use Rattle.std.specs.Prelude.{◌≡◌, ◌<◌, ◌≤◌, ◌++◌, [],
 ghost use Rattle.std.specs.Prelude.{IfSome, IfNone};
 ghost use Rattle.std.specs.List.{All};
 ghost use Rattle.cmd_run.specs.chain.OutputSamples.{sample_of, first_word, samples_from};
-ghost use Rattle.cmd_run.specs.chain.OutputSamples.{samples_of, derived_input};
+ghost use Rattle.cmd_run.specs.chain.OutputSamples.{samples_of, chained_input};
 
 use det_values::{CycleInput, OutOfMemory, Outcome, RunFrame, Sample, Samples};
 use std::alloc::Global;
@@ -16,12 +16,12 @@ const MAX_SAMPLE: i64 = 1000000000000;
 ///
 /// A word is 8 bytes, big-endian, in two's complement. A word beyond 10^12 in either direction
 /// gives no sample. A refused cycle gives no samples.
-pub fn derived_input(alloc: Global, run: &RunFrame, events: u16) -> Result<CycleInput, OutOfMemory>
+pub fn chained_input(alloc: Global, run: &RunFrame, events: u16) -> Result<CycleInput, OutOfMemory>
     requires { events ≤ 256 }
-    ensures is { IfOk result (λ input. input ≡ derived_input events run.now) }
+    ensures is { IfOk result (λ input. input ≡ chained_input events run.now) }
     ensures known { IfOk result (λ input. All (λ s. s.event < events) input.samples) }
 {
-    let samples = samples_of(alloc, &run.outcome, events)?;
+    let samples = samples_of_output(alloc, &run.outcome, events)?;
     Ok(CycleInput {
         time: run.input.time,
         samples,
@@ -29,14 +29,14 @@ pub fn derived_input(alloc: Global, run: &RunFrame, events: u16) -> Result<Cycle
 }
 
 /// The samples that a cycle gives.
-fn samples_of(alloc: Global, outcome: &Outcome, events: u16) -> Result<Samples, OutOfMemory>
+fn samples_of_output(alloc: Global, outcome: &Outcome, events: u16) -> Result<Samples, OutOfMemory>
     requires { events ≤ 256 }
     ensures { IfOk result (λ samples. samples ≡ samples_of events outcome.now) }
 {
     let mut samples = Samples::new(alloc);
     match outcome {
         Outcome::Finished { output, .. } => {
-            push_words(output.as_slice(), events, &mut samples)?;
+            push_output_words(output.as_slice(), events, &mut samples)?;
             Ok(samples)
         }
         Outcome::Refused(_) => Ok(samples),
@@ -44,25 +44,25 @@ fn samples_of(alloc: Global, outcome: &Outcome, events: u16) -> Result<Samples, 
 }
 
 /// Pushes the words of an output as samples, one word for each event.
-fn push_words(output: &[u8], events: u16, samples: &mut Samples) -> Result<(), OutOfMemory>
+fn push_output_words(output: &[u8], events: u16, samples: &mut Samples) -> Result<(), OutOfMemory>
     requires few { events ≤ 256 }
     requires none { samples.old ≡ [] }
     ensures { OnOk result (samples.new ≡ samples_from 0 events output.now) }
 {
     let mut rest = output;
     'words: for event in 0..events {
-        let (word, behind) = match word_in(rest) {
+        let (word, behind) = match first_output_word(rest) {
             Some(read) => read,
             None => return Ok(()),
         };
-        push_word(samples, event, word)?;
+        push_output_word(samples, event, word)?;
         rest = behind;
     }
     Ok(())
 }
 
 /// Pushes a word as the sample of an event, unless it is out of range.
-fn push_word(samples: &mut Samples, event: u16, word: i64) -> Result<(), OutOfMemory>
+fn push_output_word(samples: &mut Samples, event: u16, word: i64) -> Result<(), OutOfMemory>
     requires { length samples.old < 4096 }
     ensures { OnOk result (samples.new ≡ samples.old ++ sample_of event word) }
 {
@@ -76,7 +76,7 @@ fn push_word(samples: &mut Samples, event: u16, word: i64) -> Result<(), OutOfMe
 }
 
 /// The first word, and the bytes after it. None if there are fewer than 8 bytes.
-fn word_in(bytes: &[u8]) -> Option<(i64, &[u8])>
+fn first_output_word(bytes: &[u8]) -> Option<(i64, &[u8])>
     ensures some { IfSome result (λ x. 8 ≤ length bytes.now) }
     ensures word { IfSome result (λ x. x.0 ≡ first_word bytes.now) }
     ensures rest { IfSome result (λ x. x.1.now ≡ drop 8 bytes.now) }

@@ -1,14 +1,14 @@
 //! The loop of a chain: reads an input, runs a cycle of both clients, writes both frames.
 ghost use Rattle.std.specs.Prelude.{◌≡◌, ◌⊎◌, ◌≤◌, Some};
 ghost use Rattle.det_io.specs.Count.{Rose};
-ghost use Rattle.det_io.specs.Traffic.{ShelfTraffic, shelf_run, sink_run, failure_in};
+ghost use Rattle.det_io.specs.Traffic.{ShelfTraffic, shelf_run, failure_in};
 ghost use Rattle.det_io.specs.declared.failure.Failure.TheVariants.{Write};
 ghost use Rattle.stimulus.specs.slot_reader.StandsFor.{slot_of};
 ghost use Rattle.cmd_run.specs.chain.ChainStart.{IsBegun};
-ghost use Rattle.cmd_run.specs.chain.ChainEnds.{IsChained};
+ghost use Rattle.cmd_run.specs.chain.ChainEnds.{sink_runs, IsChained};
 
 use crate::chain::ChainCounts;
-use crate::chain::both_clients::{close_both, cycle_both, open_both};
+use crate::chain::both_clients::{close_chain, cycle_chain, open_chain};
 use det_io::{Sink, Slots, Stopped};
 use job::{Job, Pool};
 use recorder::run_writer::Runner;
@@ -44,10 +44,8 @@ where
     ensures chained { IsChained A.meaning first.old.recording.profile
         B.meaning second.old.recording.profile (slot_of stimulus.old)
         (shelf_run S.sees S.stays shelf.old shelf.new)
-        (record {
-          first = sink_run K.took K.faults first_sink.old first_sink.new;
-          second = sink_run L.took L.faults second_sink.old second_sink.new;
-        }) result }
+        (sink_runs K.took K.faults first_sink.old first_sink.new
+        L.took L.faults second_sink.old second_sink.new) result }
     ensures shelf_traffic { ShelfTraffic (shelf_run S.sees S.stays shelf.old shelf.new)
         (failure_in result) }
     ensures write_fault { failure_in result ≡ Some Write
@@ -56,11 +54,11 @@ where
     ensures first_counted { K.faults first_sink.old ≤ K.faults first_sink.new }
     ensures second_counted { L.faults second_sink.old ≤ L.faults second_sink.new }
 {
-    open_both(first, second, first_sink, second_sink)?;
+    open_chain(first, second, first_sink, second_sink)?;
     'cycles: while let Some(input) = stimulus.next_input(shelf)? {
-        let spare = cycle_both(first, second, input, first_sink, second_sink)?;
+        let spare = cycle_chain(first, second, input, first_sink, second_sink)?;
         stimulus.take_back(spare);
     }
-    let counts = close_both(first, second, first_sink, second_sink)?;
+    let counts = close_chain(first, second, first_sink, second_sink)?;
     Ok(counts)
 }

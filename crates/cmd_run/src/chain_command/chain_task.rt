@@ -3,6 +3,7 @@ ghost use Rattle.std.specs.Prelude.{◌≡◌, ◌∷◌, [], length, None, IfSo
 ghost use Rattle.std.specs.Option.{unwrap_or};
 ghost use Rattle.det_io.specs.Count.{Rose};
 ghost use Rattle.det_io.specs.Shelf.{AsksPrefix};
+ghost use Rattle.det_io.specs.Traffic.{sink_run};
 ghost use Rattle.manifest.specs.Limits.{IsWorkers};
 ghost use Rattle.cli_answers.specs.Ends.{can_end};
 ghost use Rattle.cli_answers.specs.Outcome.{Meets, KnowsBytes, known_bytes};
@@ -63,7 +64,7 @@ where
         (KnowsBytes (S.sees shelf.old) (record_names task.now.second.now task.now.stimulus.now
         (setup_of task.now.strict (known_bytes (S.sees shelf.old) task.now.second.now))))
         (Rose (S.sees shelf.old).faults (S.sees shelf.new).faults)
-        (Rose (K.faults out.old) (K.faults out.new)) (K.took out.old) (K.took out.new) result }
+        (sink_run K.took K.faults out.old out.new) result }
     ensures ends { can_end record_work result ≡ true }
     ensures asked { AsksPrefix (S.sees shelf.old) (S.sees shelf.new)
         (task.now.second.now ∷ task.now.stimulus.now ∷ []) }
@@ -109,7 +110,7 @@ where
         (setup_of task.now.strict (known_bytes (S.sees shelf.old) task.now.first.now))
         (setup_of task.now.strict (known_bytes (S.sees shelf.old) task.now.second.now))))
         (Rose (S.sees shelf.old).faults (S.sees shelf.new).faults)
-        (Rose (K.faults out.old) (K.faults out.new)) (K.took out.old) (K.took out.new) result }
+        (sink_run K.took K.faults out.old out.new) result }
     ensures ends { can_end record_work result ≡ true }
     ensures asked { AsksPrefix (S.sees shelf.old) (S.sees shelf.new)
         (task.now.first.now ∷ task.now.second.now ∷ task.now.stimulus.now ∷ []) }

@@ -2,34 +2,21 @@
 ghost use Rattle.std.specs.Prelude.{◌≡◌, ◌∷◌, [], IsSome, None, length, true};
 ghost use Rattle.det_io.specs.Count.{Rose};
 ghost use Rattle.det_io.specs.Shelf.{AsksPrefix};
+ghost use Rattle.det_io.specs.Traffic.{sink_run};
 ghost use Rattle.jobs.specs.Kinds.{bad_param};
 ghost use Rattle.cli_answers.specs.Ends.{can_end};
 ghost use Rattle.cli_answers.specs.Outcome.{Meets, known_bytes};
 ghost use Rattle.cli_answers.specs.Slots.{KeepsSlots};
-ghost use Rattle.cmd_run.specs.record_command.Outcomes.{record_work};
-ghost use Rattle.cmd_run.specs.chain_command.Chain.{answer_of};
+ghost use Rattle.cmd_run.specs.record_command.Outcomes.{demo_work};
 ghost use Rattle.cmd_run.specs.chain_command.Clients.{chained_by_kinds};
 
-use crate::chain::ChainCounts;
-use crate::chain_command::chain_visit::StimulusIn;
+use crate::record_command::stimulus_answer;
+use crate::stimulus_visit::StimulusIn;
 use cli_answers::Answer;
-use det_io::{Discard, Shelf, Sink, Stopped};
+use det_io::{Discard, Shelf, Sink};
 use shipped_crews::{PlannedRun, with_two_crews};
 use std::thread::Threads;
-use stimulus::StimulusFault;
 use worker_pool::Gate;
-
-/// The answer of the command for the result of a chain.
-fn answer_of(chained: Result<ChainCounts, Stopped<StimulusFault>>) -> Answer
-    ensures is { result ≡ answer_of chained }
-    ensures ends { can_end record_work result ≡ true }
-{
-    match chained {
-        Ok(_) => Answer::Done,
-        Err(Stopped::Refused(fault)) => Answer::BadStimulus { line: fault.line },
-        Err(Stopped::Failed(failure)) => Answer::from(failure),
-    }
-}
 
 /// Chains two clients over the stimulus under a name. The record of the first client is discarded:
 /// `record` writes the same one for the first manifest.
@@ -56,8 +43,8 @@ where
         (known_bytes (S.sees shelf.old) stimulus.now))
         (IsSome ((S.sees shelf.old).holds stimulus.now))
         (Rose (S.sees shelf.old).faults (S.sees shelf.new).faults)
-        (Rose (K.faults out.old) (K.faults out.new)) (K.took out.old) (K.took out.new) result }
-    ensures ends { can_end record_work result ≡ true }
+        (sink_run K.took K.faults out.old out.new) result }
+    ensures ends { can_end demo_work result ≡ true }
     ensures asked { AsksPrefix (S.sees shelf.old) (S.sees shelf.new) (stimulus.now ∷ []) }
     ensures earlier { KeepsSlots (S.sees shelf.old) (S.sees shelf.new) }
 {
@@ -68,7 +55,7 @@ where
     let events = first.run.profile.events.len() as u16;
     let stimulus = StimulusIn { slot, events };
     match with_two_crews(first, second, stimulus, shelf, &mut Discard, out) {
-        Ok(chained) => answer_of(chained),
+        Ok(chained) => stimulus_answer(chained),
         Err(_) => Answer::OutOfMemory,
     }
 }

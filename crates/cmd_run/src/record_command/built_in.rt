@@ -2,6 +2,7 @@
 ghost use Rattle.std.specs.Prelude.{◌≡◌, ◌∷◌, [], IfOk, true};
 ghost use Rattle.det_io.specs.Count.{Rose};
 ghost use Rattle.det_io.specs.Shelf.{AsksPrefix};
+ghost use Rattle.det_io.specs.Traffic.{sink_run};
 ghost use Rattle.cli_answers.specs.Ends.{can_end};
 ghost use Rattle.cli_answers.specs.Outcome.{Meets, KnowsBytes, known_bytes};
 ghost use Rattle.cli_answers.specs.Slots.{KeepsSlots};
@@ -66,8 +67,7 @@ where
     ensures meets { Meets (demo_outcome (known_bytes (S.sees shelf.old) stimulus.now))
         (KnowsBytes (S.sees shelf.old) (stimulus.now ∷ []))
         (Rose (S.sees shelf.old).faults (S.sees shelf.new).faults)
-        (Rose (K.faults out.old) (K.faults out.new))
-        (K.took out.old) (K.took out.new) result }
+        (sink_run K.took K.faults out.old out.new) result }
     ensures ends { can_end demo_work result ≡ true }
     ensures asked { AsksPrefix (S.sees shelf.old) (S.sees shelf.new) (stimulus.now ∷ []) }
     ensures earlier { KeepsSlots (S.sees shelf.old) (S.sees shelf.new) }

@@ -2,28 +2,29 @@
 ghost use Rattle.std.specs.Prelude.{◌≡◌, ◌∷◌, [], IsSome, None, length, true};
 ghost use Rattle.det_io.specs.Count.{Rose};
 ghost use Rattle.det_io.specs.Shelf.{AsksPrefix};
+ghost use Rattle.det_io.specs.Traffic.{sink_run};
 ghost use Rattle.jobs.specs.Kinds.{bad_param};
 ghost use Rattle.cli_answers.specs.Ends.{can_end};
 ghost use Rattle.cli_answers.specs.Outcome.{Meets, known_bytes};
 ghost use Rattle.cli_answers.specs.Slots.{KeepsSlots};
-ghost use Rattle.cmd_run.specs.record_command.Outcomes.{answer_of, recorded_by_kind, demo_work};
+ghost use Rattle.cmd_run.specs.record_command.Outcomes.{demo_work, recorded_by_kind};
+ghost use Rattle.cmd_run.specs.record_command.Outcomes.{stimulus_answer};
 
-use crate::crew_recorder::record_by_crew;
+use crate::stimulus_visit::StimulusIn;
 use cli_answers::Answer;
 use det_io::{Shelf, Sink, Stopped};
 use probes::Audience;
-use recorder::run_writer::Counts;
-use shipped_crews::{ShippedRun, Workers};
+use shipped_crews::{ShippedRun, Workers, with_crew};
 use std::thread::Threads;
 use stimulus::StimulusFault;
 use worker_pool::Gate;
 
-/// The answer of the command for the result of a recording.
-fn answer_of(recorded: Result<Counts, Stopped<StimulusFault>>) -> Answer
-    ensures is { result ≡ answer_of recorded }
+/// The answer of a command for the result of a recording or of a chain.
+pub(crate) fn stimulus_answer<C: Drop>(counts: Result<C, Stopped<StimulusFault>>) -> Answer
+    ensures is { result ≡ stimulus_answer counts }
     ensures ends { can_end demo_work result ≡ true }
 {
-    match recorded {
+    match counts {
         Ok(_) => Answer::Done,
         Err(Stopped::Refused(fault)) => Answer::BadStimulus { line: fault.line },
         Err(Stopped::Failed(failure)) => Answer::from(failure),
@@ -48,7 +49,7 @@ where
         (recorded_by_kind run.kind run.profile (known_bytes (S.sees shelf.old) stimulus.now))
         (IsSome ((S.sees shelf.old).holds stimulus.now))
         (Rose (S.sees shelf.old).faults (S.sees shelf.new).faults)
-        (Rose (K.faults out.old) (K.faults out.new)) (K.took out.old) (K.took out.new) result }
+        (sink_run K.took K.faults out.old out.new) result }
     ensures ends { can_end demo_work result ≡ true }
     ensures asked { AsksPrefix (S.sees shelf.old) (S.sees shelf.new) (stimulus.now ∷ []) }
     ensures earlier { KeepsSlots (S.sees shelf.old) (S.sees shelf.new) }
@@ -57,7 +58,11 @@ where
         Ok(slot) => slot,
         Err(failure) => return Answer::from(failure),
     };
+    let events = run.profile.events.len() as u16;
+    let stimulus = StimulusIn { slot, events };
     let mut nobody = Audience::new(workers.alloc, Vec::new(workers.alloc));
-    let recorded = record_by_crew(workers, run, slot, shelf, out, &mut nobody);
-    answer_of(recorded)
+    match with_crew(workers, run, stimulus, shelf, out, &mut nobody) {
+        Ok(recorded) => stimulus_answer(recorded),
+        Err(_) => Answer::OutOfMemory,
+    }
 }

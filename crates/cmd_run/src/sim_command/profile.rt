@@ -1,14 +1,14 @@
 //! The built-in profile of `sim`.
 ghost use Rattle.std.specs.Prelude.{◌≡◌, IfOk};
-ghost use Rattle.cmd_run.specs.sim_command.Sim.{newest_event, sim_profile};
+ghost use Rattle.cmd_run.specs.sim_command.Sim.{sim_event, sim_profile};
 
 use det_values::{
     EventName, EventSpec, Events, Format, JobKind, OutOfMemory, Params, Policy, Profile,
 };
 use std::alloc::Global;
 
-fn newest_event(name: EventName) -> EventSpec
-    ensures { result ≡ newest_event name }
+fn sim_event(name: EventName) -> EventSpec
+    ensures { result ≡ sim_event name }
 {
     EventSpec {
         capacity: 1,
@@ -30,9 +30,9 @@ fn sim_events(alloc: Global) -> Result<Events, OutOfMemory>
     let Some(hold) = EventName::from_bytes(b"hold") else {
         unreachable!()
     };
-    events.push(newest_event(x))?;
-    events.push(newest_event(y))?;
-    events.push(newest_event(hold))?;
+    events.push(sim_event(x))?;
+    events.push(sim_event(y))?;
+    events.push(sim_event(hold))?;
     Ok(events)
 }
 

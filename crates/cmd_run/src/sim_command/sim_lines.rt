@@ -1,6 +1,6 @@
 //! The command `sim`: makes the stimulus and the profile, and prints the summary.
 ghost use Rattle.std.specs.Prelude.{◌≡◌, ◌≢◌, [], ◌++◌, true, OnOk, IfOk};
-ghost use Rattle.det_io.specs.Count.{Rose};
+ghost use Rattle.det_io.specs.Traffic.{sink_run};
 ghost use Rattle.manifest.specs.Limits.{IsWorkers};
 ghost use Rattle.probes.specs.Reports.{reported};
 ghost use Rattle.probes.specs.Shows.{seen};
@@ -23,7 +23,11 @@ use stimulus::generate_stimulus;
 use worker_pool::Gate;
 
 /// The lines of a summary, then the reports.
-fn lines_of(alloc: Global, summary: &Summary, reports: &[u8]) -> Result<Vec<u8>, OutOfMemory>
+fn sim_output_lines(
+    alloc: Global,
+    summary: &Summary,
+    reports: &[u8],
+) -> Result<Vec<u8>, OutOfMemory>
     ensures { IfOk result (λ lines. lines.items
         ≡ summary_lines summary.now ++ reports.now) }
 {
@@ -59,7 +63,7 @@ where
     let run = ShippedRun { kind, profile };
     let summary = summarize_run(workers, run, number, stimulus, audience)?;
     audience.finish(alloc)?;
-    lines_of(alloc, &summary, audience.reports())
+    sim_output_lines(alloc, &summary, audience.reports())
 }
 
 /// Prints a summary of the built-in cloud's run over the stimulus that is generated from a number.
@@ -81,7 +85,7 @@ where
         (sim_outcome
         (seen (λ b. life (b.vtable, b.value)) audience.old) number)
         (Unit {0}) ⊥
-        (Rose (K.faults out.old) (K.faults out.new)) (K.took out.old) (K.took out.new) result }
+        (sink_run K.took K.faults out.old out.new) result }
     ensures ends { can_end reads_nothing result ≡ true }
     ensures saw { result ≢ Answer.OutOfMemory → reported
         (seen (λ b. life (b.vtable, b.value)) audience.new) []

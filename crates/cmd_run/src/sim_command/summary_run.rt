@@ -6,20 +6,20 @@ ghost use Rattle.probes.specs.Shows.{seen};
 ghost use Rattle.jobs.specs.Kinds.{bad_param, by_kind};
 ghost use Rattle.cmd_run.specs.sim_command.Sim.{runs_over, summary_over};
 
-use crate::crew_recorder::record_by_crew;
+use crate::stimulus_visit::StimulusIn;
 use det_io::{Failure, Stopped, TextShelf};
 use det_values::{Bytes, OutOfMemory};
 use probes::{Audience, Probe};
 use record_reader::DigestSink;
 use record_text::Summary;
 use recorder::run_writer::Counts;
-use shipped_crews::{ShippedRun, Workers};
+use shipped_crews::{ShippedRun, Workers, with_crew};
 use std::thread::Threads;
 use stimulus::StimulusFault;
 use worker_pool::Gate;
 
 /// The counts of a run that only `OutOfMemory` can end early.
-fn counts_of(run: Result<Counts, Stopped<StimulusFault>>) -> Result<Counts, OutOfMemory>
+fn sim_counts(run: Result<Counts, Stopped<StimulusFault>>) -> Result<Counts, OutOfMemory>
     requires { IfErr run (λ why. why ≡ Stopped.Failed Failure.OutOfMemory) }
     ensures { IfOk result (λ counts. run ≡ Ok counts) }
 {
@@ -52,8 +52,10 @@ where
 {
     let mut shelf = TextShelf::new(text);
     let mut sink = DigestSink::new();
-    let recorded = record_by_crew(workers, run, 0, &mut shelf, &mut sink, audience);
-    let counts = counts_of(recorded)?;
+    let events = run.profile.events.len() as u16;
+    let stimulus = StimulusIn { slot: 0, events };
+    let recorded = with_crew(workers, run, stimulus, &mut shelf, &mut sink, audience)?;
+    let counts = sim_counts(recorded)?;
     Ok(Summary {
         number,
         cycles: counts.cycles,

@@ -24,7 +24,7 @@ fn put_element(out: &mut Vec<u8>, cycle: u32, element: u32) -> Result<(), AllocE
 }
 
 /// Appends a place. At `OutOfMemory` a part of it may have been appended.
-pub fn put_place(out: &mut Vec<u8>, place: Difference) -> Result<(), OutOfMemory>
+pub fn put_difference_place(out: &mut Vec<u8>, place: Difference) -> Result<(), OutOfMemory>
     ensures { OnOk result (out.new.items ≡ out.old.items ++ place_text place) }
 {
     match place {
@@ -45,7 +45,7 @@ fn put_last_place(out: &mut Vec<u8>, place: Difference) -> Result<(), OutOfMemor
         ≡ out.old.items ++ (codes " " ++ (place_text place ++ codes "\n"))) }
 {
     put_str(out, " ")?;
-    put_place(out, place)?;
+    put_difference_place(out, place)?;
     put_str(out, "\n")?;
     Ok(())
 }

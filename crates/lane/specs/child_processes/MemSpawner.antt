@@ -18,6 +18,8 @@ state_of scripts children told asked faults = record {
   words = slice_get (map (λ (child : RunningChild). words_at scripts child.script) children);
   finished = λ k. unwrap_or
       (slice_get (map (λ (child : RunningChild). child.is_finished) children) k) false;
+  lost = λ k. unwrap_or
+      (slice_get (map (λ (child : RunningChild). child.is_lost) children) k) false;
   asked = asked_in told scripts asked;
   gives = bytes_under scripts;
   ends = status_under scripts;
@@ -55,6 +57,7 @@ pub record IsNewMemSpawner (s : MemSpawner) (made_of : MemSpawnerSetup) : Type 0
     faults = 0;
     words = λ child. None;
     finished = λ child. false;
+    lost = λ child. false;
     asked = Some [];
     gives = bytes_under made_of.scripts;
     ends = status_under made_of.scripts;

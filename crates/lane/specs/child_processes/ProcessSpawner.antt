@@ -12,9 +12,14 @@ abbrev pub finished_of : {R A B C D : Type 0} {w : WriteGhosts B} {r : ReadGhost
     {e : ReadGhosts D} → ProcessSpawner R A B C D w r e → List Bool
 finished_of s = s.finished.items
 
+-- for each child, whether its `finish` failed
+abbrev pub lost_of : {R A B C D : Type 0} {w : WriteGhosts B} {r : ReadGhosts C}
+    {e : ReadGhosts D} → ProcessSpawner R A B C D w r e → List Bool
+lost_of s = s.lost.items
+
 abbrev pub process_state : {R A B C D : Type 0} {w : WriteGhosts B} {r : ReadGhosts C}
     {e : ReadGhosts D} → ProcessSpawner R A B C D w r e → SpawnerState
-process_state s = opaque_state s.finished.items s.faults
+process_state s = opaque_state s.finished.items s.lost.items s.faults
 
 -- a child's process was waited for, and ended with this exit status
 abbrev pub EndedWith : {R A B C D : Type 0} {w : WriteGhosts B} {r : ReadGhosts C}
@@ -29,3 +34,4 @@ pub record HasRoom {R A B C D : Type 0} {w : WriteGhosts B} {r : ReadGhosts C} {
   pub outputs : vec_len s.outputs < vec_capacity s.outputs
   pub at_end : vec_len s.at_end < vec_capacity s.at_end
   pub finished : vec_len s.finished < vec_capacity s.finished
+  pub lost : vec_len s.lost < vec_capacity s.lost

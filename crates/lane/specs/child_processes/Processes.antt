@@ -1,5 +1,5 @@
--- What contracts know of processes: how many were started, which of them were given to `finish`,
--- how often a call failed, and how one ended.
+-- What contracts know of processes: how many were started, which of them were given to `finish` and
+-- for which that failed, how often another call failed, and how one ended.
 use Rattle.std.specs.Prelude.{ℕ, ℤ, List, Bool, false, Option, None, length, slice_index_or}
 use Rattle.std.specs.Prelude.{option_and_then}
 use Rattle.std.specs.Process.{child_status, exit_code}
@@ -7,12 +7,13 @@ use Rattle.std.specs.declared.process.child.Child.{Child}
 use Rattle.lane.specs.child_processes.Spawners.{SpawnerState}
 
 -- a spawner whose arguments, bytes and exit statuses aren't known
-abbrev pub opaque_state : List Bool → ℕ → SpawnerState
-opaque_state finished faults = record {
+abbrev pub opaque_state : (finished lost : List Bool) → ℕ → SpawnerState
+opaque_state finished lost faults = record {
   children = length finished;
   faults = faults;
   words = λ child. None;
   finished = λ child. slice_index_or finished child false;
+  lost = λ child. slice_index_or lost child false;
   asked = None;
   gives = λ words. None;
   ends = λ words. None;

@@ -13,12 +13,14 @@ words_of words = map string_bytes words
 pub record SpawnerState : Type 0 where
   -- how many children were started
   pub children : ℕ
-  -- the number of its failures so far
+  -- the number of calls of `start` and `read` that failed so far
   pub faults : ℕ
   -- the arguments with which a child was started, if they are known
   pub words : ℕ → Option Words
   -- whether a child was given to `finish`
   pub finished : ℕ → Bool
+  -- whether a child's `finish` failed
+  pub lost : ℕ → Bool
   -- the lists of arguments with which `start` was called, if they are known
   pub asked : Option (List Words)
   -- the output of a child that is started with these arguments, if it is known
@@ -83,10 +85,12 @@ pub record Asks (before after : SpawnerState) (lists : List Words) : Type 0 wher
 -- a child was given to `finish`
 pub record Finishes (before after : SpawnerState) (child : ℕ) : Type 0 where
   pub children : after.children ≡ before.children
+  pub faults : after.faults ≡ before.faults
   pub words : after.words ≡ before.words
   pub asked : after.asked ≡ before.asked
   pub finished : after.finished child ≡ true
   pub other_finished : (k : ℕ) → k ≢ child → after.finished k ≡ before.finished k
+  pub other_lost : (k : ℕ) → k ≢ child → after.lost k ≡ before.lost k
   pub none_left : IsAtEnd after child
   pub other_left : (k : ℕ) → k ≢ child → after.left k ≡ before.left k
 

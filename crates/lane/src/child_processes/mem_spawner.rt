@@ -149,6 +149,7 @@ impl Spawner for MemSpawner {
             script,
             at: 0,
             is_finished: false,
+            is_lost: false,
         };
         push_within(&mut self.children, child);
         Ok(number)
@@ -181,11 +182,12 @@ impl Spawner for MemSpawner {
             return Err(SpawnFailed);
         }
         let running = self.children[child as usize];
-        let n = script_search::copy_rest(self.scripts.as_slice(), running, buf);
+        let n = script_search::copy_script_rest(self.scripts.as_slice(), running, buf);
         self.children[child as usize] = RunningChild {
             script: running.script,
             at: running.at + n,
             is_finished: running.is_finished,
+            is_lost: running.is_lost,
         };
         Ok(n)
     }
@@ -197,10 +199,7 @@ impl Spawner for MemSpawner {
             child }
         ensures fixed { Fixed (mem_spawner_state self.old) (mem_spawner_state self.new) }
         ensures status { IfOk result (StatusIs (mem_spawner_state self.old) child) }
-        ensures cause { OnErr result
-            (Rose (mem_spawner_state self.old).faults (mem_spawner_state self.new).faults) }
-        ensures counted { (mem_spawner_state self.old).faults
-            ≤ (mem_spawner_state self.new).faults }
+        ensures lost { (mem_spawner_state self.new).lost child ≡ is_err result }
 
         ensures fails { is_err result ≡ call_fails self.old }
         // This holds also if output was left.
@@ -211,15 +210,15 @@ impl Spawner for MemSpawner {
         ensures calls { calls_of self.new ≡ next_count (calls_of self.old) }
         ensures took_none { starts_of self.new ≡ starts_of self.old }
     {
-        let is_listed = self.calls.next_fails();
+        let is_lost = self.calls.next_fails();
         let ended = self.children[child as usize];
         self.children[child as usize] = RunningChild {
             script: ended.script,
             at: ended.at,
             is_finished: true,
+            is_lost,
         };
-        if is_listed {
-            self.faults = self.faults.saturating_add(1);
+        if is_lost {
             return Err(SpawnFailed);
         }
         Ok(script_search::status_at(self.scripts.as_slice(), ended.script))

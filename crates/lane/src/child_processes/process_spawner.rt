@@ -19,8 +19,8 @@ type Output<R> = BufReader<<<R as Processes>::Started as OpenProcess>::Stdout>;
 /// error is dropped. Contracts know neither the arguments nor the bytes nor the exit statuses of
 /// its children.
 ///
-/// Each failure of the system is a fault. So is running out of memory for one more child or its
-/// arguments, and an end without an exit status, as after a signal. An interrupted read is tried
+/// A call fails if the system does, and if memory runs out for one more child or its arguments. An
+/// end without an exit status, as after a signal, is a failure too. An interrupted read is tried
 /// again, up to 1,000 times in all.
 ///
 /// - A name without a slash is looked for in `PATH`.
@@ -42,10 +42,14 @@ pub struct ProcessSpawner<R: Processes> {
     at_end: Vec<bool>,
     // For each child, whether it was given to `finish`.
     finished: Vec<bool>,
+    // For each child, whether its `finish` failed.
+    lost: Vec<bool>,
+    // The number of failed starts and reads.
     faults: u64,
     ghost one_child_each: { vec_len children ≡ vec_len finished },
     ghost one_output_each: { vec_len outputs ≡ vec_len finished },
     ghost one_end_each: { vec_len at_end ≡ vec_len finished },
+    ghost one_loss_each: { vec_len lost ≡ vec_len finished },
 }
 
 impl<R: Processes + Copy> ProcessSpawner<R> {
@@ -55,7 +59,7 @@ impl<R: Processes + Copy> ProcessSpawner<R> {
 
     /// A spawner without children.
     pub fn new(rt: &R, alloc: Global) -> ProcessSpawner<R>
-        ensures { process_state result ≡ opaque_state [] 0 }
+        ensures { process_state result ≡ opaque_state [] [] 0 }
     {
         ProcessSpawner {
             rt: *rt,
@@ -64,6 +68,7 @@ impl<R: Processes + Copy> ProcessSpawner<R> {
             outputs: Vec::new(alloc),
             at_end: Vec::new(alloc),
             finished: Vec::new(alloc),
+            lost: Vec::new(alloc),
             faults: 0,
         }
     }
@@ -76,18 +81,20 @@ impl<R: Processes> ProcessSpawner<R> {
     ghost use Rattle.lane.specs.child_processes.Spawners.{Starts, words_of};
     ghost use Rattle.lane.specs.child_processes.Processes.{opaque_state};
     ghost use Rattle.lane.specs.child_processes.ProcessSpawner.{process_state, finished_of};
-    ghost use Rattle.lane.specs.child_processes.ProcessSpawner.{HasRoom};
+    ghost use Rattle.lane.specs.child_processes.ProcessSpawner.{lost_of, HasRoom};
 
     // Adds a child that was started.
     fn keep(&mut self, child: Child<R::Started>, output: Output<R>)
         requires { HasRoom self.old }
         ensures { process_state self.new
-            ≡ opaque_state (finished_of self.old ++ false ∷ []) (process_state self.old).faults }
+            ≡ opaque_state (finished_of self.old ++ false ∷ []) (lost_of self.old ++ false ∷ [])
+            (process_state self.old).faults }
     {
         push_within(&mut self.children, child);
         push_within(&mut self.outputs, Some(output));
         push_within(&mut self.at_end, false);
         push_within(&mut self.finished, false);
+        push_within(&mut self.lost, false);
     }
 
     // Starts a child. Room in the lists is reserved first, so that a started child is never lost.
@@ -103,9 +110,10 @@ impl<R: Processes> ProcessSpawner<R> {
         self.outputs.reserve(1).ok()?;
         self.at_end.reserve(1).ok()?;
         self.finished.reserve(1).ok()?;
-        let mut child = launch(&self.rt, self.alloc, words).ok()?;
-        let Some(output) = output_of::<R>(self.alloc, &mut child) else {
-            let _ = end_of::<R>(&mut child, false);
+        self.lost.reserve(1).ok()?;
+        let mut child = spawn_child(&self.rt, self.alloc, words).ok()?;
+        let Some(output) = child_output::<R>(self.alloc, &mut child) else {
+            let _ = wait_for_child::<R>(&mut child, false);
             return None;
         };
         self.keep(child, output);
@@ -117,6 +125,7 @@ impl<R: Processes> ProcessSpawner<R> {
         ensures answer { result ≡ answer }
         ensures children { self.new.children ≡ self.old.children }
         ensures finished { finished_of self.new ≡ finished_of self.old }
+        ensures lost { lost_of self.new ≡ lost_of self.old }
         ensures cause { OnErr answer (Rose self.old.faults self.new.faults) }
         ensures counted { self.old.faults ≤ self.new.faults }
     {
@@ -128,8 +137,8 @@ impl<R: Processes> ProcessSpawner<R> {
 }
 
 impl<R: Processes + Copy> Spawner for ProcessSpawner<R> {
-    ghost use Rattle.std.specs.Prelude.{◌≡◌, ◌<◌, ◌≤◌, true, false, IfOk, OnErr};
-    ghost use Rattle.det_io.specs.Count.{Rose};
+    ghost use Rattle.std.specs.Prelude.{◌≡◌, ◌<◌, false, IfOk};
+    ghost use Rattle.std.specs.Result.{is_err};
     ghost use Rattle.lane.specs.child_processes.Spawners.{Finishes, Fixed, StatusIs};
     ghost use Rattle.lane.specs.child_processes.ProcessSpawner.{process_state, EndedWith};
 
@@ -145,7 +154,7 @@ impl<R: Processes + Copy> Spawner for ProcessSpawner<R> {
         if self.finished[index] {
             return Ok(0);
         }
-        let moved = read_output::<R>(&mut self.outputs[index], buf);
+        let moved = read_child_output::<R>(&mut self.outputs[index], buf);
         if moved == Ok(0) && !buf.is_empty() {
             self.at_end[index] = true;
         }
@@ -158,9 +167,7 @@ impl<R: Processes + Copy> Spawner for ProcessSpawner<R> {
         ensures finishes { Finishes (process_state self.old) (process_state self.new) child }
         ensures fixed { Fixed (process_state self.old) (process_state self.new) }
         ensures status { IfOk result (StatusIs (process_state self.old) child) }
-        ensures cause { OnErr result
-            (Rose (process_state self.old).faults (process_state self.new).faults) }
-        ensures counted { (process_state self.old).faults ≤ (process_state self.new).faults }
+        ensures lost { (process_state self.new).lost child ≡ is_err result }
 
         ensures ended { IfOk result (EndedWith self.new child) }
     {
@@ -168,12 +175,17 @@ impl<R: Processes + Copy> Spawner for ProcessSpawner<R> {
         self.finished[index] = true;
         let is_at_end = self.at_end[index];
         self.outputs[index] = None;
-        let status = end_of::<R>(&mut self.children[index], is_at_end);
-        self.counted(status)
+        let status = wait_for_child::<R>(&mut self.children[index], is_at_end);
+        self.lost[index] = status.is_err();
+        status
     }
 }
 
-fn launch<R: Processes>(rt: &R, alloc: Global, words: &[String]) -> io::Result<Child<R::Started>>
+fn spawn_child<R: Processes>(
+    rt: &R,
+    alloc: Global,
+    words: &[String],
+) -> io::Result<Child<R::Started>>
     requires { 0 < length words.now }
 {
     let mut command = Command::new(alloc, words[0].as_str())?;
@@ -188,13 +200,13 @@ fn launch<R: Processes>(rt: &R, alloc: Global, words: &[String]) -> io::Result<C
 }
 
 // The output of a child that was just started. None if there is no memory for its buffer.
-fn output_of<R: Processes>(alloc: Global, child: &mut Child<R::Started>) -> Option<Output<R>> {
+fn child_output<R: Processes>(alloc: Global, child: &mut Child<R::Started>) -> Option<Output<R>> {
     let pipe = child.stdout.take()?;
     BufReader::with_capacity(alloc, READ_AHEAD, pipe).ok()
 }
 
 // Reads once from a child's output. A child without an output is a failure.
-fn read_output<R: Processes>(
+fn read_child_output<R: Processes>(
     output: &mut Option<Output<R>>,
     buf: &mut [u8],
 ) -> Result<usize, SpawnFailed>
@@ -208,7 +220,10 @@ fn read_output<R: Processes>(
 
 // Waits for the end of a child whose output isn't read any more. A child that may still write is
 // killed first.
-fn end_of<R: Processes>(child: &mut Child<R::Started>, is_at_end: bool) -> Result<u8, SpawnFailed>
+fn wait_for_child<R: Processes>(
+    child: &mut Child<R::Started>,
+    is_at_end: bool,
+) -> Result<u8, SpawnFailed>
     ensures { IfOk result (λ status. code_of child.new ≡ Some (pos status)) }
 {
     if !is_at_end {

@@ -1,6 +1,7 @@
 //! `Spawner`, the trait of what starts children.
 ghost use Rattle.std.specs.Prelude.{◌≡◌, ℕ, ◌<◌, ◌≤◌, ◌∷◌, [], List, length, true, false, IfOk};
 ghost use Rattle.std.specs.Prelude.{OnErr};
+ghost use Rattle.std.specs.Result.{is_err};
 ghost use Rattle.det_io.specs.Count.{Rose};
 ghost use Rattle.lane.specs.child_processes.Spawners.{SpawnerState, ReadsChild, moved, IsAtEnd};
 ghost use Rattle.lane.specs.child_processes.Spawners.{Fixed, Starts};
@@ -12,8 +13,9 @@ use crate::child_processes::SpawnFailed;
 /// Starts children, numbered from 0, reads what each writes, and waits for their ends.
 ///
 /// `sees` is the state that contracts see: how many children were started, which of them were given
-/// to `finish`, and the count of faults. More may be known: each child's arguments and the rest of
-/// its output, the calls of `start`, and a child's output and exit status by its arguments.
+/// to `finish` and for which that failed, and the count of other faults. More may be known: each
+/// child's arguments and the rest of its output, the calls of `start`, and a child's output and
+/// exit status by its arguments.
 pub trait Spawner {
     ghost sees: { Self → SpawnerState };
 
@@ -42,15 +44,14 @@ pub trait Spawner {
         ensures counted { (sees self.old).faults ≤ (sees self.new).faults };
 
     /// Ends the use of a child and returns its exit status. The child is stopped if its output
-    /// wasn't read to its end, and then waited for. A child that ends without an exit status is a
-    /// fault. The child counts as finished even if the call fails. Without the stop, a child that
-    /// neither writes nor ends would hold the lane up after a difference.
+    /// wasn't read to its end, and then waited for. The call fails for a child that ends without an
+    /// exit status. The child counts as finished even if the call fails. Without the stop, a child
+    /// that neither writes nor ends would hold the lane up after a difference.
     fn finish(&mut self, child: u32) -> Result<u8, SpawnFailed>
         requires started { child < (sees self.old).children }
         requires running { (sees self.old).finished child ≡ false }
         ensures finishes { Finishes (sees self.old) (sees self.new) child }
         ensures fixed { Fixed (sees self.old) (sees self.new) }
         ensures status { IfOk result (StatusIs (sees self.old) child) }
-        ensures cause { OnErr result (Rose (sees self.old).faults (sees self.new).faults) }
-        ensures counted { (sees self.old).faults ≤ (sees self.new).faults };
+        ensures lost { (sees self.new).lost child ≡ is_err result };
 }

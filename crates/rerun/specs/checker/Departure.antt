@@ -1,5 +1,5 @@
 -- Where a record departs from the run that its inputs give.
-use Rattle.std.specs.Prelude.{ℕ, suc, List, [], ◌∷◌, take, true, Option, None}
+use Rattle.std.specs.Prelude.{ℕ, suc, List, ◌∷◌, take, true, Option, None}
 use Rattle.std.specs.Prelude.{if◌then◌else◌}
 use Rattle.std.specs.List.{flat_map}
 use Rattle.std.specs.Option.{is_none, option_or}

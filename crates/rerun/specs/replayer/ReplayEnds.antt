@@ -4,6 +4,7 @@ use Rattle.det_values.specs.Values.{ProfileValue}
 use Rattle.det_io.specs.Shelf.{IsAtEnd}
 use Rattle.det_io.specs.Sink.{Grew, GrewByPrefix, GrewShort}
 use Rattle.det_io.specs.Traffic.{ShelfRun, SinkRun}
+use Rattle.det_io.specs.declared.failure.Failure.{Failure}
 use Rattle.det_io.specs.declared.failure.Failure.TheVariants.{Read, Write, OutOfMemory}
 use Rattle.det_io.specs.declared.failure.Stopped.{Stopped}
 use Rattle.det_io.specs.declared.failure.Stopped.TheVariants.{Refused, Failed}
@@ -17,6 +18,11 @@ use Rattle.record_reader.specs.ItemTaker.{OfSlot}
 use Rattle.recorder.specs.declared.run_writer.counts.Counts.{Counts}
 use Rattle.recorder.specs.run_writer.Record.{Counted, record_with}
 use Rattle.rerun.specs.replayer.ReplayRecord.{inputs, replay_record}
+
+-- a sink took the first of these bytes before a failure, and not all of them if a write failed
+abbrev pub PartTaken : Failure → SinkRun → List ℕ → Type 0
+PartTaken Write out bytes = GrewShort out.before out.after bytes
+PartTaken failure out bytes = GrewByPrefix out.before out.after bytes
 
 module _ {S G E L P : Type 0} (m : Meaning S G E L P) (profile : ProfileValue) where
   -- the record is whole, and all that its inputs give was taken
@@ -35,12 +41,8 @@ module _ {S G E L P : Type 0} (m : Meaning S G E L P) (profile : ProfileValue) w
   abbrev pub Answers : Result Counts (Stopped RecordFault) → List ℕ → SinkRun → Type 0
   Answers (Ok counts) record_bytes out = Finishes record_bytes counts out
   Answers (Err (Refused fault)) record_bytes out = Stops record_bytes fault out
-  Answers (Err (Failed Read)) record_bytes out =
-      GrewByPrefix out.before out.after (replay_record m profile record_bytes)
-  Answers (Err (Failed Write)) record_bytes out =
-      GrewShort out.before out.after (replay_record m profile record_bytes)
-  Answers (Err (Failed OutOfMemory)) record_bytes out =
-      GrewByPrefix out.before out.after (replay_record m profile record_bytes)
+  Answers (Err (Failed failure)) record_bytes out =
+      PartTaken failure out (replay_record m profile record_bytes)
 
   -- How far a record was read: to its end, or as far as its fault shows. And what was written where
   -- a read failed.

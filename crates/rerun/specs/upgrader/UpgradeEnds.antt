@@ -2,7 +2,7 @@
 use Rattle.std.specs.Prelude.{◌≡◌, ◌⊎◌, ℕ, List, ◌++◌, false, Some, None, Result, Ok, Err, IfSome}
 use Rattle.det_values.specs.Values.{ProfileValue}
 use Rattle.det_io.specs.Shelf.{IsAtEnd}
-use Rattle.det_io.specs.Sink.{Grew, GrewByPrefix, GrewShort}
+use Rattle.det_io.specs.Sink.{Grew}
 use Rattle.det_io.specs.Traffic.{ShelfRun, SinkRun}
 use Rattle.det_io.specs.declared.failure.Failure.TheVariants.{Read, Write, OutOfMemory}
 use Rattle.det_io.specs.declared.failure.Stopped.{Stopped}
@@ -13,6 +13,7 @@ use Rattle.record_grammar.specs.Record.{fault_so_far}
 use Rattle.record_reader.specs.ItemTaker.{OfSlot}
 use Rattle.rerun.specs.declared.checker.check_verdict.CheckVerdict.{CheckVerdict}
 use Rattle.rerun.specs.declared.checker.check_verdict.CheckVerdict.TheVariants.{Genuine, Departs}
+use Rattle.rerun.specs.replayer.ReplayEnds.{PartTaken}
 use Rattle.rerun.specs.checker.Departure.{departure}
 use Rattle.rerun.specs.checker.Needed.{IsNeeded}
 use Rattle.rerun.specs.checker.CheckVerdict.{check_verdict}
@@ -26,12 +27,8 @@ module _ {S G E L P : Type 0} (m : Meaning S G E L P) (profile : ProfileValue) w
   Answers (Err (Refused fault)) record_bytes out =
       (check_verdict m profile record_bytes ≡ Err fault)
       × Grew out.before out.after (upgraded m profile record_bytes)
-  Answers (Err (Failed Read)) record_bytes out =
-      GrewByPrefix out.before out.after (upgraded m profile record_bytes)
-  Answers (Err (Failed Write)) record_bytes out =
-      GrewShort out.before out.after (upgraded m profile record_bytes)
-  Answers (Err (Failed OutOfMemory)) record_bytes out =
-      GrewByPrefix out.before out.after (upgraded m profile record_bytes)
+  Answers (Err (Failed failure)) record_bytes out =
+      PartTaken failure out (upgraded m profile record_bytes)
 
   -- How far a record was read: to its end, as far as a departure, or as far as its fault shows. And
   -- what was written where a read failed.

@@ -7,12 +7,12 @@ ghost use Rattle.record_view.specs.Shows.{IsFrameSpelling, events_of};
 ghost use Rattle.rerun.specs.checker.RerunFrames.{AreAlike};
 
 use crate::checker::frame_pair::FramePair;
-use crate::checker::rerun_frames::rerun_frame;
+use crate::checker::next_run::next_run_frame;
 use crate::replayer::empty_input;
 use det_values::{CycleInput, Frame, OutOfMemory};
 use job::{Job, Pool};
 use record_codec::{encode_frame, frame_of};
-use record_view::{FrameView, events_at, format_at};
+use record_view::{FrameKind, FrameView, events_at, format_at};
 use recorder::run_writer::Recording;
 use std::alloc::Global;
 use std::mem;
@@ -67,8 +67,16 @@ impl FrameRoom {
             (length recording.old.profile.events) frame) }
         ensures profile { recording.new.profile ≡ recording.old.profile }
     {
-        let spare = mem::replace(&mut self.spare, empty_input(self.alloc));
-        rerun_frame(recording, pool, view, bytes, spare)
+        match view.kind {
+            FrameKind::Register => Ok(Frame::Register),
+            FrameKind::Discover => Ok(Frame::Discover),
+            FrameKind::Init { .. } => recording.init(),
+            FrameKind::Run { .. } => {
+                let spare = mem::replace(&mut self.spare, empty_input(self.alloc));
+                next_run_frame(recording, pool, view, bytes, spare)
+            }
+            FrameKind::Terminate => Ok(Frame::Terminate),
+        }
     }
 
     /// Compares a frame that was read with the one that the run gives. The frame that was read
@@ -86,7 +94,7 @@ impl FrameRoom {
             → IsFrameSpelling view read bytes.now → compared.read ≡ read) }
         ensures given { IfOk result (λ compared. rerun_frame_in compared ≡ given) }
     {
-        if is_spelled(view, bytes, &given, &mut self.spelling)? {
+        if rerun_equals_read(view, bytes, &given, &mut self.spelling)? {
             return Ok(FramePair {
                 read: given,
                 other: None,
@@ -110,7 +118,7 @@ impl FrameRoom {
 }
 
 /// Whether the bytes of a frame that was read are those of another frame of its kind.
-fn is_spelled(
+fn rerun_equals_read(
     view: FrameView,
     bytes: &[u8],
     given: &Frame,

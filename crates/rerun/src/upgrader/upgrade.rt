@@ -94,7 +94,7 @@ impl Upgrade {
         ensures format { self.new.format ≡ self.old.format }
     {
         self.compared += 1;
-        self.cycles += cycles_in(read);
+        self.cycles += upgraded_cycles(read);
     }
 
     /// Compares a frame that was read with the one that the run gives. If they agree, the latter is
@@ -134,14 +134,14 @@ impl Upgrade {
         }
         let FramePair { read, .. } = compared;
         self.count(&read);
-        write_unless_last(recording, &read, sink)?;
+        write_upgraded_frame(recording, &read, sink)?;
         self.room.take_back(recording, read);
         Ok(None)
     }
 }
 
 /// 1 for a Run frame, else 0.
-fn cycles_in(frame: &Frame) -> u32
+fn upgraded_cycles(frame: &Frame) -> u32
     ensures cycles { result ≡ length (input_of frame.now) }
     ensures most { result ≤ 1 }
 {
@@ -153,7 +153,7 @@ fn cycles_in(frame: &Frame) -> u32
 
 /// Writes the buffer of the recording, which holds this frame, unless the frame is Terminate.
 /// Terminate is written only once the record was read to its end.
-fn write_unless_last<J: Job, K: Sink>(
+fn write_upgraded_frame<J: Job, K: Sink>(
     recording: &mut Recording<J>,
     frame: &Frame,
     sink: &mut K,
@@ -176,7 +176,10 @@ fn write_unless_last<J: Job, K: Sink>(
 }
 
 /// Writes the header of a run.
-fn write_header<J: Job, K: Sink>(recording: &mut Recording<J>, sink: &mut K) -> Result<(), Failure>
+fn write_upgraded_header<J: Job, K: Sink>(
+    recording: &mut Recording<J>,
+    sink: &mut K,
+) -> Result<(), Failure>
     ensures took { OnOk result (Grew (K.took sink.old) (K.took sink.new)
         (spelled recording.old.profile [])) }
     ensures cut { IfErr result (λ failure. Cuts failure (K.took sink.old) (K.took sink.new)
@@ -219,7 +222,7 @@ pub fn upgrade_run<J: Job, P: Pool<J>, S: Slots, K: Sink>(
     ensures sink_traffic { SinkTraffic (sink_run K.took K.faults sink.old sink.new)
         (failure_in result) }
 {
-    write_header(recording, sink)?;
+    write_upgraded_header(recording, sink)?;
     let mut upgrade = Upgrade {
         format: original.format,
         compared: 0,

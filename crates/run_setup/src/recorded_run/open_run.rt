@@ -53,13 +53,13 @@ pub fn open_recorded_run<S: Shelf>(
 {
     let slot = shelf.open_input(recorded)?;
     match open_record(alloc, slot, shelf) {
-        Ok(opened) => run_in(opened),
+        Ok(opened) => recorded_run_in(opened),
         Err(end) => Err(as_bad_run(end)),
     }
 }
 
 /// The run of an opened record, if a shipped job takes its profile.
-fn run_in(opened: OpenRecord) -> Result<RecordedRun, Stopped<BadRun>>
+fn recorded_run_in(opened: OpenRecord) -> Result<RecordedRun, Stopped<BadRun>>
     ensures kind { IfOk result (λ run. kind_of opened.profile ≡ Some run.kind) }
     ensures profile { IfOk result (λ run. run.profile ≡ opened.profile) }
     ensures frames { IfOk result (λ run. run.frames ≡ opened.frames) }

@@ -1,8 +1,14 @@
 -- How comparing meets its outcome, by its end.
-use Rattle.std.proofs.Common.{◌≡◌, ℕ, List, Bor, map, ap}
+use Rattle.std.proofs.Common.{◌≡◌, ◌≤◌, ℕ, List, Bor, Some, map, ap}
 use Rattle.std.specs.Prelude.{Result, Ok, Err}
 use Rattle.det_io.specs.declared.failure.Stopped.TheVariants.{Refused}
 use Rattle.det_io.specs.Shelf.{ShelfState}
+use Rattle.det_io.specs.Traffic.{SinkRun, ShelfTraffic}
+use Rattle.det_io.specs.Count.{Rose}
+use Rattle.det_io.specs.declared.failure.Failure.{Failure}
+use Rattle.det_io.specs.declared.failure.Failure.TheVariants.{Write}
+use Rattle.det_io.proofs.Counts.{rose-before}
+use Rattle.cli_answers.specs.Answers.{failed}
 use Rattle.cmd_records.specs.open_names.OpenedSlots.{Opened}
 use Rattle.copies.specs.declared.verdict.BadCopy.{BadCopy}
 use Rattle.copies.specs.declared.verdict.Verdict.{Verdict}
@@ -10,26 +16,11 @@ use Rattle.copies.specs.CompareCopies.{AreLeft, Compared}
 use Rattle.copies.specs.Verdict.{verdict}
 use Rattle.cli_answers.specs.declared.answer.Answer.{Answer}
 use Rattle.cli_answers.specs.declared.answer.Answer.TheVariants.{BadRecord}
-use Rattle.cli_answers.specs.Outcome.{Outcome, Meets, KnowsBytes, known_bytes}
-use Rattle.cli_answers.proofs.AnswerMeets.{meets-refusal}
+use Rattle.cli_answers.specs.Outcome.{Meets, KnowsBytes, known_bytes}
+use Rattle.cli_answers.proofs.AnswerMeets.{unwritten, meets-refusal, meets-unopened}
 use Rattle.cmd_records.specs.compare_command.Compare.{compared, compare_outcome}
+use Rattle.cmd_records.proofs.lemmas.command_ends.Meeting.{meets-printed}
 use Rattle.cmd_records.proofs.lemmas.open_names.Copies.{texts, are-left}
-
--- what was printed is the outcome, if the names are known
-meets-printed : {wanted printed : Outcome} {is_known rose other : Type 0} {before after : List ℕ → Type 0} {answer : Answer}
-    → (is_known → wanted ≡ printed) → Meets printed (Unit {0}) ⊥ other before after answer
-    → Meets wanted is_known rose other before after answer
-meets-printed is m = record {
-  part = λ t. rw (is t) (m.part tt);
-  whole = λ t. rw (is t) (m.whole tt);
-  read_fault = λ e. absurd (m.read_fault e);
-  write_fault = m.write_fault;
-}
-
--- the answer of a comparison of the copies under these names
-abbrev MeetsCompared : ShelfState → List (List ℕ) → Type 0 → Type 0 → (List ℕ → Type 0) → (List ℕ → Type 0) → Answer → Type 0
-MeetsCompared first names rose other before after answer =
-    Meets (compare_outcome (map (known_bytes first) names)) (KnowsBytes first names) rose other before after answer
 
 module _ {first mid : ShelfState} {slots here : List ℕ} (recorded : List (Bor (List ℕ))) (same : here ≡ slots)
     (opened : Opened first mid (texts recorded) slots) where
@@ -38,12 +29,22 @@ module _ {first mid : ShelfState} {slots here : List ℕ} (recorded : List (Bor 
       → KnowsBytes first (texts recorded) → compare_outcome (map (known_bytes first) (texts recorded)) ≡ compared end
   outcome-by end is is_known = ap compared (is (map (known_bytes first) (texts recorded)) (are-left recorded same opened is_known))
 
-  pub meets-verdict : {last : ShelfState} {rose other : Type 0} {before after : List ℕ → Type 0} {answer : Answer} (found : Verdict)
-      → Compared (Ok found) mid last here → Meets (compared (Ok found)) (Unit {0}) ⊥ other before after answer
-      → MeetsCompared first (texts recorded) rose other before after answer
+  pub meets-verdict : {last : ShelfState} {rose : Type 0} {out : SinkRun} {answer : Answer} (found : Verdict)
+      → Compared (Ok found) mid last here → Meets (compared (Ok found)) (Unit {0}) ⊥ out answer
+      → Meets (compare_outcome (map (known_bytes first) (texts recorded))) (KnowsBytes first (texts recorded)) rose out answer
   meets-verdict found h m = meets-printed (outcome-by (Ok found) h.is) m
 
-  pub meets-bad : {last : ShelfState} {rose other : Type 0} {before : List ℕ → Type 0} (bad : BadCopy)
+  pub meets-bad : {last : ShelfState} {rose : Type 0} {took : List ℕ → Type 0} {m n : ℕ} (bad : BadCopy)
       → Compared (Err (Refused bad)) mid last here
-      → MeetsCompared first (texts recorded) rose other before before (BadRecord bad.copy bad.fault)
-  meets-bad bad h = meets-refusal _ _ _ _ _ (BadRecord bad.copy bad.fault) (λ e. cc) (λ e. cc) (outcome-by (Err bad) h.is)
+      → Meets (compare_outcome (map (known_bytes first) (texts recorded))) (KnowsBytes first (texts recorded)) rose (unwritten took m n)
+      (BadRecord bad.copy bad.fault)
+  meets-bad bad h = meets-refusal _ _ _ _ _ _ (BadRecord bad.copy bad.fault) (λ e. cc) (λ e. cc) (outcome-by (Err bad) h.is)
+
+  -- the comparison failed
+  pub meets-failed : {last : ShelfState} {stays : Type 0} {took : List ℕ → Type 0} {m n : ℕ} (failure : Failure)
+      → first.faults ≤ mid.faults → ShelfTraffic (record { first = mid; last = last; stays = stays }) (Some failure)
+      → (Some failure ≡ Some Write → ⊥)
+      → Meets (compare_outcome (map (known_bytes first) (texts recorded))) (KnowsBytes first (texts recorded))
+      (Rose first.faults last.faults) (unwritten took m n) (failed failure)
+  meets-failed {last = last} {took = took} {m = m} {n = n} failure counted reads no_write =
+      meets-unopened _ _ _ took m n failure (λ e. rose-before first.faults mid.faults last.faults counted (reads.cause e)) no_write

@@ -1,16 +1,16 @@
 -- How showing ends, by how the reading did.
 use Rattle.std.proofs.Common.{◌≡◌, ◌⊎◌, inl, inr, ℕ, List, [], ◌∷◌, ◌++◌, length, Option, Some, None, Result, Ok, Err, refl, sym, ap, subst}
 use Rattle.std.proofs.Common.{◌∙◌, append-nil}
-use Rattle.std.specs.Prelude.{IfSome, OnOk}
+use Rattle.std.specs.Prelude.{OnOk}
 use Rattle.det_values.specs.declared.frames.RunFrame.{RunFrame}
 use Rattle.det_io.specs.declared.failure.Failure.TheVariants.{Read, Write, OutOfMemory}
 use Rattle.det_io.specs.declared.failure.Stopped.{Stopped}
 use Rattle.det_io.specs.declared.failure.Stopped.TheVariants.{Refused, Failed}
 use Rattle.det_io.specs.Prefix.{IsPrefix, IsProperPrefix}
 use Rattle.det_io.specs.Shelf.{IsAtEnd}
-use Rattle.det_io.specs.Sink.{Grew, GrewByPrefix, GrewShort}
+use Rattle.det_io.specs.Sink.{Grew, GrewShort}
 use Rattle.det_io.specs.Traffic.{ShelfRun, SinkRun}
-use Rattle.det_io.proofs.Growth.{grew-none, grew-then, grew-then-short, part-wider, part-whole, short-part}
+use Rattle.det_io.proofs.Growth.{grew-none, grew-then, grew-then-short, part-wider, part-whole}
 use Rattle.det_io.proofs.Prefixes.{prefix-none, prefix-same, prefix-then, prefix-append, proper-then, proper-behind}
 use Rattle.record_grammar.specs.declared.record_fault.RecordFault.{RecordFault}
 use Rattle.record_grammar.specs.declared.item.Item.{Item}
@@ -20,7 +20,7 @@ use Rattle.record_text.specs.declared.show_part.ShowPart.TheVariants.{All, Repor
 use Rattle.record_reader.specs.item_reader.StandsFor.{FoundFault, IsFaulty}
 use Rattle.record_reader.proofs.lemmas.item_reader.Needed.{while-weaker}
 use Rattle.record_reader.specs.ItemTaker.{AreAll, RecordRead, ItemsRead}
-use Rattle.record_reader.proofs.ItemTaker.{behind, over, told, of-slot}
+use Rattle.record_reader.proofs.ItemTaker.{behind, over, of-slot}
 use Rattle.probes.specs.Reports.{ProbeLife, AudienceState, reported, reports, in_turn}
 use Rattle.probes.specs.Shows.{Shows, SawRuns}
 use Rattle.probes.proofs.Shown.{all-reports}
@@ -29,7 +29,8 @@ use Rattle.cmd_records.specs.declared.record_show.printer.Printer.{Printer}
 use Rattle.cmd_records.specs.record_show.Text.{lines_of, reports_of, text_from, text_of}
 use Rattle.record_reader.specs.InItems.{runs_in}
 use Rattle.cmd_records.specs.record_show.PrintedItems.{Watched, Kept, showing}
-use Rattle.cmd_records.specs.record_show.ShowEnds.{Answers, SawFirst, Sees, Finished, IsGone, FinishIs, ReadsTo, WroteRead, Ended}
+use Rattle.cmd_records.specs.command_ends.Results.{UnlessNoMemory}
+use Rattle.cmd_records.specs.record_show.ShowEnds.{Answers, SawFirst, Finished, IsGone, FinishIs, ReadsTo, WroteRead, Ended}
 use Rattle.cmd_records.proofs.lemmas.record_show.Parts.{part-first, none-yet}
 use Rattle.cmd_records.proofs.lemmas.record_show.Taken.{kept-same}
 
@@ -77,7 +78,7 @@ finished_saw first mid now runs h is =
 
 module _ (part : ShowPart) (first now : AudienceState) (bytes : List ℕ) (out : SinkRun) where
   -- an audience that was shown nothing saw no run
-  saw-none : (taken : List ℕ) → now ≡ first → Grew out.before out.after taken → SawFirst part first now bytes out.before out.after
+  saw-none : (taken : List ℕ) → now ≡ first → Grew out.before out.after taken → SawFirst part first now bytes out
   saw-none taken is grew = record {
     seen = [];
     first = prefix-none (items_in bytes);
@@ -88,7 +89,7 @@ module _ (part : ShowPart) (first now : AudienceState) (bytes : List ℕ) (out :
   }
 
   saw-runs : (given : List Item) (rest : List ℕ) → IsPrefix given (items_in bytes) → SawRuns first now (runs_in given)
-      → Grew out.before out.after (lines_of part given ++ rest) → SawFirst part first now bytes out.before out.after
+      → Grew out.before out.after (lines_of part given ++ rest) → SawFirst part first now bytes out
   saw-runs given rest front saw grew = record {
     seen = given;
     first = front;
@@ -100,14 +101,14 @@ module _ (part : ShowPart) (first now : AudienceState) (bytes : List ℕ) (out :
 
 saw-watched : (part : ShowPart) (first now : AudienceState) (bytes : List ℕ) (out : SinkRun) (given : List Item) (rest : List ℕ)
     → IsPrefix given (items_in bytes) → Watched part first now (runs_in given)
-    → Grew out.before out.after (lines_of part given ++ rest) → SawFirst part first now bytes out.before out.after
+    → Grew out.before out.after (lines_of part given ++ rest) → SawFirst part first now bytes out
 saw-watched All first now bytes out given rest front h grew = saw-runs All first now bytes out given rest front (all-reports h) grew
 saw-watched Reports first now bytes out given rest front h grew = saw-runs Reports first now bytes out given rest front (all-reports h) grew
 saw-watched (Cycle number) first now bytes out given rest front h grew = saw-none (Cycle number) first now bytes out _ h grew
 
 saw-finished : (part : ShowPart) (first mid now : AudienceState) (bytes : List ℕ) (out : SinkRun) (given : List Item) (rest : List ℕ)
     → IsPrefix given (items_in bytes) → Watched part first mid (runs_in given) → Finished part mid now []
-    → Grew out.before out.after (lines_of part given ++ rest) → SawFirst part first now bytes out.before out.after
+    → Grew out.before out.after (lines_of part given ++ rest) → SawFirst part first now bytes out
 saw-finished All first mid now bytes out given rest front h is grew =
     saw-runs All first now bytes out given rest front (finished_saw first mid now (runs_in given) h is) grew
 saw-finished Reports first mid now bytes out given rest front h is grew =
@@ -120,7 +121,7 @@ with-none out {lines} grew = subst (Grew out.before out.after) (sym (append-nil 
 -- ---- where the reading stopped
 
 abbrev Both : Result Shown (Stopped RecordFault) → ShowPart → AudienceState → AudienceState → List ℕ → SinkRun → Type 0
-Both result part first now bytes out = Answers result part first bytes out × Sees result part first now bytes out
+Both result part first now bytes out = Answers result part first bytes out × UnlessNoMemory result (SawFirst part first now bytes out)
 
 all-first : {given : List Item} {end : Option RecordFault} {bytes : List ℕ} → AreAll given end bytes → IsPrefix given (items_in bytes)
 all-first {given} all = subst (IsPrefix given) (sym all.items) (prefix-same given)
@@ -222,7 +223,7 @@ ended-stopped part first now printer {out = out} stop kept h = record {
   wrote = stopped_wrote part first now printer stop h;
   answers = of-slot _ (λ bytes. Answers (Err stop) part first bytes out)
       (λ bytes r. (stopped part first now printer bytes out h.given stop r).0) h.record_read;
-  sees = of-slot _ (λ bytes. Sees (Err stop) part first now bytes out)
+  sees = of-slot _ (λ bytes. UnlessNoMemory {T = Shown} (Err stop) (SawFirst part first now bytes out))
       (λ bytes r. (stopped part first now printer bytes out h.given stop r).1) h.record_read;
   gone = tt;
   kept = kept;
@@ -265,33 +266,11 @@ ended-finished part first mid now printer {shelf = shelf} {slot = slot} {one = o
   wrote = finished_wrote result part printer.cycles mid now h.read (behind one last b) (over one last b) end;
   answers = of-slot _ (λ bytes. Answers result part first bytes (over one last b))
       (λ bytes r. (finished part first mid now printer bytes one last b h.given u result r end).0) h.record_read;
-  sees = of-slot _ (λ bytes. Sees result part first now bytes (over one last b))
+  sees = of-slot _ (λ bytes. UnlessNoMemory result (SawFirst part first now bytes (over one last b)))
       (λ bytes r. (finished part first mid now printer bytes one last b h.given u result r end).1) h.record_read;
   gone = finished_gone result part printer.cycles mid now (behind one last b) end;
   kept = kept;
 }
-
--- ---- what is told
-
-pub answers-part : (result : Result Shown (Stopped RecordFault)) (part : ShowPart) (audience : AudienceState) (bytes : List ℕ)
-    (out : SinkRun) → Answers result part audience bytes out → GrewByPrefix out.before out.after (text_of part audience bytes)
-answers-part (Ok shown) part audience bytes out h = part-whole out.before out.after _ h.grew
-answers-part (Err (Refused f)) part audience bytes out h = part-whole out.before out.after _ h.1
-answers-part (Err (Failed Read)) part audience bytes out h = h
-answers-part (Err (Failed Write)) part audience bytes out h = short-part out.before out.after _ h
-answers-part (Err (Failed OutOfMemory)) part audience bytes out h = h
-
-module _ {result : Result Shown (Stopped RecordFault)} {part : ShowPart} {first now : AudienceState} {read : List ℕ} {shelf : ShelfRun}
-    {slot : ℕ} {out : SinkRun} (h : Ended result part first now read shelf slot out) where
-  pub told-answers : IfSome (shelf.first.left slot) (λ bytes. Answers result part first bytes out)
-  told-answers = told (λ bytes. Answers result part first bytes out) h.answers
-
-  pub told-part : IfSome (shelf.first.left slot) (λ bytes. GrewByPrefix out.before out.after (text_of part first bytes))
-  told-part = told (λ bytes. GrewByPrefix out.before out.after (text_of part first bytes))
-      (of-slot (λ bytes. Answers result part first bytes out) _ (λ bytes a. answers-part result part first bytes out a) h.answers)
-
-  pub told-sees : IfSome (shelf.first.left slot) (λ bytes. Sees result part first now bytes out)
-  told-sees = told (λ bytes. Sees result part first now bytes out) h.sees
 
 -- ---- the reports
 
@@ -321,37 +300,47 @@ finished_by All other mid seeing left reports none = both mid seeing left report
 finished_by Reports other mid seeing left reports none = both mid seeing left reports none
 finished_by (Cycle number) other mid seeing left reports none = absurd (other number refl)
 
--- the reports were printed
-pub finish-all : (part : ShowPart) → ((number : ℕ) → part ≡ Cycle number → ⊥)
-    → (shown : Shown) (mid : AudienceState) (seeing : List ProbeLife) (left : List ℕ) (out : SinkRun) → left ≡ reported mid [] → seeing ≡ []
-    → Grew out.before out.after left
-    → FinishIs (Ok shown) part shown.cycles mid (record { seeing = seeing; left = left }) out
-finish-all part other shown mid seeing left out reports none grew = (
-  refl,
-  finished_by part other mid seeing left reports none,
-  subst (Grew out.before out.after)
-      (reports ∙ sym (reports_are part other mid)) grew,
-)
-
--- they weren't
-pub finish-cut : (part : ShowPart) → ((number : ℕ) → part ≡ Cycle number → ⊥)
-    → (cycles : ℕ) (mid : AudienceState) (seeing : List ProbeLife) (left : List ℕ) (out : SinkRun) → left ≡ reported mid [] → seeing ≡ []
-    → GrewShort out.before out.after left
-    → FinishIs (Err (Failed Write)) part cycles mid (record { seeing = seeing; left = left }) out
-finish-cut part other cycles mid seeing left out reports none short = (
-  finished_by part other mid seeing left reports none,
-  subst (GrewShort out.before out.after)
-      (reports ∙ sym (reports_are part other mid)) short,
-)
-
 pub kept-other : (part : ShowPart) → ((number : ℕ) → part ≡ Cycle number → ⊥) → (first now : AudienceState) → Kept part first now
 kept-other All other first now = tt
 kept-other Reports other first now = tt
 kept-other (Cycle number) other first now = absurd (other number refl)
 
+-- all items were passed to a printer of this part
+pub of-part : {result : Result (Unit {0}) (Stopped RecordFault)} {printed part : ShowPart} {first now : AudienceState} {printer : Printer}
+    {shelf : ShelfRun} {slot : ℕ} {out : SinkRun} → printed ≡ part → ItemsRead result (showing printed first now printer) shelf slot out
+    → ItemsRead result (showing part first now printer) shelf slot out
+of-part {result} {first = first} {now = now} {printer = printer} {shelf = shelf} {slot = slot} {out = out} is h =
+    subst (λ (p : ShowPart). ItemsRead result (showing p first now printer) shelf slot out) is h
+
+module _ {part : ShowPart} (other : (number : ℕ) → part ≡ Cycle number → ⊥) {first mid : AudienceState} {printer : Printer}
+    {shelf : ShelfRun} {slot : ℕ} {one : SinkRun} {u : Unit {0}} (h : ItemsRead (Ok u) (showing part first mid printer) shelf slot one)
+    (now : AudienceState) where
+  -- the audience couldn't report
+  pub ended-unreported : Ended (Err (Failed OutOfMemory)) part first now h.read shelf slot (over one one.after one.faults_after)
+  ended-unreported =
+      ended-finished part first mid now printer one.after one.faults_after u (Err (Failed OutOfMemory)) (kept-other part other first now) h
+      (grew-none one.after)
+
+  module _ (last : List ℕ → Type 0) (b : ℕ) (left : now.left ≡ reported mid []) (none : now.seeing ≡ []) where
+    are-reports : now.left ≡ reports_of part mid []
+    are-reports = left ∙ sym (reports_are part other mid)
+
+    -- not all reports were printed
+    pub ended-cut : GrewShort one.after last now.left → Ended (Err (Failed Write)) part first now h.read shelf slot (over one last b)
+    ended-cut short =
+        ended-finished part first mid now printer last b u (Err (Failed Write)) (kept-other part other first now) h
+        (finished_by part other mid now.seeing now.left left none, subst (GrewShort one.after last) are-reports short)
+
+    -- all were
+    pub ended-reported : Grew one.after last now.left
+        → Ended (Ok (record { cycles = printer.cycles })) part first now h.read shelf slot (over one last b)
+    ended-reported grew =
+        ended-finished part first mid now printer last b u (Ok (record { cycles = printer.cycles })) (kept-other part other first now) h
+        (refl, finished_by part other mid now.seeing now.left left none, subst (Grew one.after last) are-reports grew)
+
 -- where nothing was read the audience has seen nothing
 pub saw-unread : (part : ShowPart) (audience : AudienceState) (bytes : List ℕ) (out : SinkRun) → Grew out.before out.after []
-    → SawFirst part audience audience bytes out.before out.after
+    → SawFirst part audience audience bytes out
 saw-unread part audience bytes out grew = saw-none part audience audience bytes out [] refl grew
 
 -- nothing has no lines

@@ -1,7 +1,7 @@
 -- An audience without probes left has seen all runs.
 use Rattle.std.proofs.Common.{◌≡◌, ℕ, ◌+◌, List, [], ◌∷◌, ◌++◌, length, refl, sym, ap, ◌∙◌, arith}
 use Rattle.det_values.specs.declared.frames.RunFrame.{RunFrame}
-use Rattle.probes.specs.Reports.{ProbeLife, AudienceState, reports, reported, in_turn}
+use Rattle.probes.specs.Reports.{ProbeLife, AudienceState, reports, in_turn}
 use Rattle.probes.specs.Shows.{Shows}
 
 nothing_in_turn : (k : ℕ) (runs : List RunFrame) → in_turn k runs [] ≡ []

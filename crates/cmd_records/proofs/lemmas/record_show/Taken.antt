@@ -1,7 +1,6 @@
 -- An item that is printed and shown.
-use Rattle.std.proofs.Common.{◌≡◌, ◌≤◌, ◌<◌, ℕ, ◌+◌, List, [], ◌∷◌, ◌++◌, length, Bool, true, cond, Option, Some, None, Ok, Err}
+use Rattle.std.proofs.Common.{◌≡◌, ◌≤◌, ◌<◌, ℕ, ◌+◌, List, [], ◌∷◌, ◌++◌, length, Bool, ◌||◌, Ok, Err}
 use Rattle.std.proofs.Common.{refl, sym, ap, subst, ◌∙◌, length-append, arith}
-use Rattle.std.specs.Prelude.{IfNone}
 use Rattle.det_values.specs.declared.format.Format.{Format}
 use Rattle.det_values.specs.declared.format.Format.TheVariants.{One}
 use Rattle.det_values.specs.declared.frames.RunFrame.{RunFrame}
@@ -20,20 +19,21 @@ use Rattle.record_grammar.proofs.Leads.{can_follow}
 use Rattle.record_view.specs.declared.view.ItemView.{ItemView}
 use Rattle.record_view.specs.Shows.{IsSpelling}
 use Rattle.record_reader.specs.Kinds.{runs_of}
+use Rattle.record_reader.specs.Salvaged.{is_init}
 use Rattle.record_reader.specs.ItemTaker.{AreFirst, IsNext, Takes, Wrote}
 use Rattle.record_reader.proofs.Items.{next_is, few_first}
-use Rattle.record_reader.proofs.Kept.{adds}
+use Rattle.record_reader.proofs.Kept.{Adds, adds}
+use Rattle.record_reader.proofs.Pieces.{headed-next as starts-headed, begun-next}
 use Rattle.record_text.specs.declared.show_part.ShowPart.{ShowPart}
 use Rattle.record_text.specs.declared.show_part.ShowPart.TheVariants.{All, Reports, Cycle}
 use Rattle.probes.specs.Reports.{AudienceState}
-use Rattle.probes.specs.Shows.{Shows}
 use Rattle.probes.proofs.Shown.{shows-none, shows-then}
 use Rattle.cmd_records.specs.declared.record_show.printer.Printer.{Printer}
 use Rattle.cmd_records.specs.record_show.Text.{lines_of}
 use Rattle.record_reader.specs.InItems.{runs_in}
 use Rattle.record_reader.specs.InItems.{run_in}
-use Rattle.cmd_records.specs.record_show.PrintedItems.{format_by, format_behind, is_printed, lines_at, printed_of, Watched, Kept, IsFailed}
-use Rattle.cmd_records.specs.record_show.PrintedItems.{AreShown, showing}
+use Rattle.cmd_records.specs.record_show.PrintedItems.{format_by, format_behind, printed_of, Watched, Kept, IsFailed}
+use Rattle.cmd_records.specs.record_show.PrintedItems.{AreShown, Noted, showing}
 use Rattle.cmd_records.proofs.lemmas.record_show.Lines.{runs_next}
 use Rattle.cmd_records.proofs.lemmas.record_show.Parts.{part-next, headed-next}
 use Rattle.cmd_records.proofs.lemmas.record_show.Formats.{format_there}
@@ -82,9 +82,28 @@ shown-room printer first now given item h are_first =
 
 -- ---- an item by its view
 
--- as many runs as an item of its kind adds
-pub counted : (view : ItemView) (item : Item) (bytes : List ℕ) → IsSpelling view item bytes → runs_of view.span.kind ≡ length (run_in item)
-counted view item bytes h = (adds view.place view.span.kind view.span.len bytes item h.shows.parts).runs
+-- what an item adds to the counts, by its kind
+adds_of : (view : ItemView) (item : Item) (bytes : List ℕ) → IsSpelling view item bytes → Adds view.span.kind item
+adds_of view item bytes h = adds view.place view.span.kind view.span.len bytes item h.shows.parts
+
+-- a printer that printed and showed an item after it counted it
+pub record IsSame (old new : Printer) : Type 0 where
+  pub part : new.part ≡ old.part
+  pub has_begun : new.has_begun ≡ old.has_begun
+  pub cycles : new.cycles ≡ old.cycles
+
+pub same-but-lines : {old new : Printer} → new ≡ record old { lines = new.lines } → IsSame old new
+same-but-lines is = record { part = ap (λ p. p.part) is; has_begun = ap (λ p. p.has_begun) is; cycles = ap (λ p. p.cycles) is }
+
+pub same-but-presenter : {old new : Printer} → new ≡ record old { presenter = new.presenter } → IsSame old new
+same-but-presenter is = record { part = ap (λ p. p.part) is; has_begun = ap (λ p. p.has_begun) is; cycles = ap (λ p. p.cycles) is }
+
+pub same-then : {old mid new : Printer} → IsSame old mid → IsSame mid new → IsSame old new
+same-then one two = record {
+  part = two.part ∙ one.part;
+  has_begun = two.has_begun ∙ one.has_begun;
+  cycles = two.cycles ∙ one.cycles;
+}
 
 -- the lines of a header hang on no format, and those of a frame on that of its place
 in_format : (part : ShowPart) (number : ℕ) (given : List Item) (item : Item) (view : ItemView) (bytes : List ℕ)
@@ -97,37 +116,40 @@ in_format part number given (items.Frame f) view bytes next =
     (can_follow view.place bytes (items.Frame f) _ next.spelling.shows.read))
 
 module _ (part : ShowPart) (first mid : AudienceState) (given : List Item) (item : Item) (view : ItemView) (bytes : List ℕ)
-    (old new : Printer) (runs : ℕ)
-    (h : AreShown part first mid old given) (next : IsNext given item view bytes) (part_stays : new.part ≡ old.part)
-    (count : new.cycles ≡ old.cycles + runs) (of_kind : runs ≡ runs_of view.span.kind) where
+    (old counted new : Printer) (h : AreShown part first mid old given) (next : IsNext given item view bytes)
+    (noted : Noted view.span.kind old counted) (same : IsSame counted new) where
   -- what the item adds to the lines
   abbrev more : List ℕ
   more = printed_of part (format_by (format_behind One given) item) (length (runs_in given) + length (run_in item)) item
 
-  -- what is printed, by the printer before
+  -- what is printed, by the printer that counted it
   abbrev printed : List ℕ
-  printed = printed_of old.part (format_of view.place) (old.cycles + runs) item
+  printed = printed_of counted.part (format_of view.place) counted.cycles item
 
-  cycles_is : old.cycles + runs ≡ length (runs_in given) + length (run_in item)
-  cycles_is = ap (λ (n : ℕ). n + runs) h.cycles
-      ∙ ap (λ (n : ℕ). length (runs_in given) + n) (of_kind ∙ counted view item bytes next.spelling)
+  cycles_is : counted.cycles ≡ length (runs_in given) + length (run_in item)
+  cycles_is = noted.cycles ∙ ap (λ (n : ℕ). n + runs_of view.span.kind) h.cycles
+      ∙ ap (λ (n : ℕ). length (runs_in given) + n) (adds_of view item bytes next.spelling).runs
 
   more_is : printed ≡ more
-  more_is = ap (λ (p : ShowPart). printed_of p (format_of view.place) (old.cycles + runs) item) h.part_is
+  more_is = ap (λ (p : ShowPart). printed_of p (format_of view.place) counted.cycles item) (noted.part ∙ h.part_is)
       ∙ ap (λ (n : ℕ). printed_of part (format_of view.place) n item) cycles_is
       ∙ in_format part (length (runs_in given) + length (run_in item)) given item view bytes next
 
   shown : (now : AudienceState) → Watched part mid now (run_in item) → AreShown part first now new (given ++ item ∷ [])
   shown now watched = record {
-    part_is = part_stays ∙ h.part_is;
-    headed = headed-next given item (next_is given item next.first) h.headed;
-    cycles = count ∙ cycles_is ∙ sym (length-append (runs_in given) (run_in item)) ∙ ap length (sym (runs_next given item));
+    part_is = same.part ∙ noted.part ∙ h.part_is;
+    headed = starts-headed given item (next_is given item next.first);
+    format = headed-next given item (next_is given item next.first) h.format;
+    has_begun = same.has_begun ∙ noted.has_begun
+        ∙ ap (λ (b : Bool). b || old.has_begun) (adds_of view item bytes next.spelling).begins
+        ∙ ap (λ (b : Bool). is_init item || b) h.has_begun ∙ sym (begun-next given item);
+    cycles = same.cycles ∙ cycles_is ∙ sym (length-append (runs_in given) (run_in item)) ∙ ap length (sym (runs_next given item));
     watched = subst (Watched part first now) (sym (runs_next given item))
         (watched-then part first mid now (runs_in given) (run_in item) h.watched watched);
   }
 
   all : lines_of part (given ++ item ∷ []) ≡ lines_of part given ++ more
-  all = part-next part given item (next_is given item next.first) h.headed
+  all = part-next part given item (next_is given item next.first) h.format
 
   -- it was printed and shown
   pub taken : (u v : Unit {0}) (now : AudienceState) (out : SinkRun)

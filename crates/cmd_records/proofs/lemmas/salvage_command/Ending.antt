@@ -14,7 +14,7 @@ use Rattle.det_io.specs.Prefix.{IsPrefix}
 use Rattle.det_io.specs.Sink.{Grew, GrewByPrefix}
 use Rattle.det_io.specs.Traffic.{ShelfRun, SinkRun, SinkTraffic, failure_in}
 use Rattle.det_io.proofs.Growth.{grew-none, same-none, part-none}
-use Rattle.det_io.proofs.Prefixes.{prefix-same, proper-length}
+use Rattle.det_io.proofs.Prefixes.{prefix-none, prefix-same, proper-length}
 use Rattle.record_grammar.specs.declared.record_fault.RecordFault.{RecordFault}
 use Rattle.record_grammar.specs.declared.item.Item.{Item}
 use Rattle.record_grammar.specs.declared.item.Item.TheVariants as items
@@ -34,10 +34,13 @@ use Rattle.probes.specs.Shows.{Shows}
 use Rattle.probes.proofs.Shown.{all-reports}
 use Rattle.cli_answers.specs.declared.answer.Answer.TheVariants.{BadRecord}
 use Rattle.cli_answers.specs.Outcome.{Outcome, text_outcome, refusal}
-use Rattle.cmd_records.specs.declared.salvage_command.watch.Watch.{Watch}
+use Rattle.cmd_records.specs.declared.record_show.printer.Printer.{Printer}
 use Rattle.cmd_records.specs.salvage_command.Salvage.{outcome_by, salvaged_text, salvage_reports_outcome}
-use Rattle.cmd_records.specs.salvage_command.WatchedItems.{Watched, watch_taking, no_sink}
-use Rattle.cmd_records.specs.salvage_command.ReportEnds.{Gives, SawFirst, Sees, Ended}
+use Rattle.cmd_records.specs.record_show.PrintedItems.{AreShown, showing}
+use Rattle.cmd_records.proofs.lemmas.command_ends.Meeting.{discarded}
+use Rattle.record_text.specs.declared.show_part.ShowPart.TheVariants.{Reports}
+use Rattle.cmd_records.specs.salvage_command.ReportEnds.{SawFirst, Ended}
+use Rattle.cmd_records.specs.command_ends.Results.{Gives, UnlessNoMemory}
 
 -- ---- what can be saved
 
@@ -60,25 +63,26 @@ outcome_of audience bytes saved = outcome_by (option_map (λ s. salvaged_text au
 
 -- ---- all was seen
 
--- the text of a record is that of a watch and an audience that was shown all its runs
+-- the text of a record is that of an audience that was shown all its runs
 pub record AllSeen (first mid : AudienceState) (cycles : ℕ) (bytes : List ℕ) : Type 0 where
   pub is : salvage_reports_outcome first bytes ≡ text_outcome (number_line (codes "salvaged") cycles ++ reported mid [])
   pub shows : Shows first mid (runs_in (items_in bytes))
 
-module _ (first mid : AudienceState) (watch : Watch) (given : List Item) (bytes : List ℕ) where
-  all-seen : items_in bytes ≡ given → Watched first mid watch given → list_any is_init given ≡ true → AllSeen first mid watch.cycles bytes
+module _ (first mid : AudienceState) (printer : Printer) (given : List Item) (bytes : List ℕ) where
+  all-seen : items_in bytes ≡ given → AreShown Reports first mid printer given → list_any is_init given ≡ true
+      → AllSeen first mid printer.cycles bytes
   all-seen all h begun =
       let some = some_from given h.headed begun in
       record {
         is = ap (outcome_of first bytes) (ap salvaged_from all ∙ some.1)
             ∙ ap (λ (xs : List Item). text_outcome (salvaged_text first xs)) all
             ∙ ap (λ (n : ℕ). text_outcome (number_line (codes "salvaged") n ++ reported first (runs_in given))) (sym h.cycles)
-            ∙ ap (λ (more : List ℕ). text_outcome (number_line (codes "salvaged") watch.cycles ++ more)) (sym (all-reports h.shows));
-        shows = subst (λ (xs : List Item). Shows first mid (runs_in xs)) (sym all) h.shows;
+            ∙ ap (λ (more : List ℕ). text_outcome (number_line (codes "salvaged") printer.cycles ++ more)) (sym (all-reports h.watched));
+        shows = subst (λ (xs : List Item). Shows first mid (runs_in xs)) (sym all) h.watched;
       }
 
-  settle_fault-at : (fault : RecordFault) (begun : Bool) → watch.has_begun ≡ begun → settled_by begun (Err (Refused fault)) ≡ Ok tt
-      → items_in bytes ≡ given → Watched first mid watch given → AllSeen first mid watch.cycles bytes
+  settle_fault-at : (fault : RecordFault) (begun : Bool) → printer.has_begun ≡ begun → settled_by begun (Err (Refused fault)) ≡ Ok tt
+      → items_in bytes ≡ given → AreShown Reports first mid printer given → AllSeen first mid printer.cycles bytes
   settle_fault-at fault true is settle_fault all h = all-seen all h (sym h.has_begun ∙ is)
   settle_fault-at fault false is settle_fault all h = absurd cc
 
@@ -87,12 +91,12 @@ module _ (first mid : AudienceState) (watch : Watch) (given : List Item) (bytes 
   not-failed false failure is = cc
 
   -- the reading came past the last item of a record that can be saved
-  settle_fault-seen : (read : Result (Unit {0}) (Stopped RecordFault)) → settled_by watch.has_begun read ≡ Ok tt
-      → RecordRead read (watch_taking first mid watch) given bytes no_sink → AllSeen first mid watch.cycles bytes
+  settle_fault-seen : (read : Result (Unit {0}) (Stopped RecordFault)) → settled_by printer.has_begun read ≡ Ok tt
+      → RecordRead read (showing Reports first mid printer) given bytes discarded → AllSeen first mid printer.cycles bytes
   settle_fault-seen (Ok u) settle_fault h =
       all-seen h.0.items h.1.stands (ap (list_any is_init) (sym h.0.items) ∙ whole_has_init bytes h.0.fault)
-  settle_fault-seen (Err (Refused fault)) settle_fault h = settle_fault-at fault watch.has_begun refl settle_fault h.0.items h.1.stands
-  settle_fault-seen (Err (Failed failure)) settle_fault h = absurd (not-failed watch.has_begun failure settle_fault)
+  settle_fault-seen (Err (Refused fault)) settle_fault h = settle_fault-at fault printer.has_begun refl settle_fault h.0.items h.1.stands
+  settle_fault-seen (Err (Failed failure)) settle_fault h = absurd (not-failed printer.has_begun failure settle_fault)
 
   -- ---- where the reading stopped
 
@@ -100,11 +104,11 @@ module _ (first mid : AudienceState) (watch : Watch) (given : List Item) (bytes 
       → salvage_reports_outcome first bytes ≡ refusal (BadRecord 0 fault)
   unsaved fault all none = ap (outcome_of first bytes) (ap salvaged_from all.items ∙ none_from given none) ∙ ap (outcome_by None) all.fault
 
-  saw-given : IsPrefix given (items_in bytes) → Watched first mid watch given → SawFirst first mid bytes
-  saw-given front h = record { seen = given; first = front; saw = all-reports h.shows }
+  saw-given : IsPrefix given (items_in bytes) → AreShown Reports first mid printer given → SawFirst first mid bytes
+  saw-given front h = record { seen = given; first = front; saw = all-reports h.watched }
 
-  -- a watch writes nothing, so no write of it fails
-  no-write-at : StopsAt (Failed Write) (watch_taking first mid watch) given bytes no_sink → ⊥
+  -- no lines are printed, so no write of it fails
+  no-write-at : StopsAt (Failed Write) (showing Reports first mid printer) given bytes discarded → ⊥
   no-write-at h = let n = proper-length h.2.wrote.0 h.2.more h.2.wrote.1 in let m = ap length h.2.all in omega (arith, n, m)
 
   module _ (took : List ℕ → Type 0) (a b : ℕ) where
@@ -112,10 +116,12 @@ module _ (first mid : AudienceState) (watch : Watch) (given : List Item) (bytes 
     still = record { before = took; after = took; faults_before = a; faults_after = b }
 
     abbrev Both : Stopped RecordFault → Type 0
-    Both stop = Gives {T = Unit {0}} (Err stop) (salvage_reports_outcome first bytes) still × Sees (Err stop) first mid bytes
+    Both stop = Gives {T = Unit {0}} (BadRecord 0) (Err stop) (salvage_reports_outcome first bytes) still
+        × UnlessNoMemory {T = Unit {0}} (Err stop) (SawFirst first mid bytes)
 
-    refused : (fault : RecordFault) (begun : Bool) → watch.has_begun ≡ begun
-        → settled_by begun (Err (Refused fault)) ≡ Err (Refused fault) → AreAll given (Some fault) bytes → Watched first mid watch given
+    refused : (fault : RecordFault) (begun : Bool) → printer.has_begun ≡ begun
+        → settled_by begun (Err (Refused fault)) ≡ Err (Refused fault) → AreAll given (Some fault) bytes
+        → AreShown Reports first mid printer given
         → Both (Refused fault)
     refused fault true is settle_fault all h = absurd cc
     refused fault false is settle_fault all h =
@@ -127,9 +133,9 @@ module _ (first mid : AudienceState) (watch : Watch) (given : List Item) (bytes 
           saw-given (subst (IsPrefix given) (sym all.items) (prefix-same given)) h,
         )
 
-    stopped : (stop : Stopped RecordFault) → settled_by watch.has_begun (Err stop) ≡ Err stop
-        → RecordRead (Err stop) (watch_taking first mid watch) given bytes no_sink → Both stop
-    stopped (Refused fault) settle_fault h = refused fault watch.has_begun refl settle_fault h.0 h.1.stands
+    stopped : (stop : Stopped RecordFault) → settled_by printer.has_begun (Err stop) ≡ Err stop
+        → RecordRead (Err stop) (showing Reports first mid printer) given bytes discarded → Both stop
+    stopped (Refused fault) settle_fault h = refused fault printer.has_begun refl settle_fault h.0 h.1.stands
     stopped (Failed Read) settle_fault h = (part-none took took _ (same-none took), saw-given h.0 h.1.stands)
     stopped (Failed Write) settle_fault h = absurd (no-write-at h)
     stopped (Failed OutOfMemory) settle_fault h = (part-none took took _ (same-none took), tt)
@@ -150,119 +156,110 @@ saw-all first mid now cycles bytes all left none = record {
       ∙ append-nil now.left ∙ left ∙ all-reports all.shows;
 }
 
--- ---- what was written
+-- ---- what was printed
 
--- the text was written, or a part of it
-abbrev Written : Result (Unit {0}) (Stopped RecordFault) → List ℕ → SinkRun → Type 0
-Written (Ok u) text out = Grew out.before out.after text
-Written (Err (Failed Write)) text out = GrewByPrefix out.before out.after text
-Written (Err stop) text out = ⊥
+-- the line with the number of salvaged runs and then the reports were printed, or the audience or the sink failed
+abbrev pub ReportsPrinted : Result (Unit {0}) (Stopped RecordFault) → (cycles : ℕ)
+    → (old now : AudienceState) → SinkRun → Type 0
+ReportsPrinted (Ok u) cycles old now out = (now.left ≡ reported old []) × (now.seeing ≡ [])
+    × Grew out.before out.after (number_line (codes "salvaged") cycles ++ reported old [])
+ReportsPrinted (Err (Failed Write)) cycles old now out =
+    (now.left ≡ reported old []) × (now.seeing ≡ [])
+    × GrewByPrefix out.before out.after (number_line (codes "salvaged") cycles ++ reported old [])
+ReportsPrinted (Err (Failed OutOfMemory)) cycles old now out = Grew out.before out.after []
+ReportsPrinted (Err stop) cycles old now out = ⊥
 
-gives-written : (first mid : AudienceState) (result : Result (Unit {0}) (Stopped RecordFault)) (cycles : ℕ) (bytes : List ℕ) (out : SinkRun)
-    → AllSeen first mid cycles bytes → Written result (number_line (codes "salvaged") cycles ++ reported mid []) out
-    → Gives result (salvage_reports_outcome first bytes) out
-gives-written first mid (Ok u) cycles bytes out all grew = (
-  ap (λ (o : Outcome). o.answer) all.is,
-  subst (λ (o : Outcome). Grew out.before out.after o.bytes) (sym all.is) grew,
-)
-gives-written first mid (Err (Refused f)) cycles bytes out all grew = absurd grew
-gives-written first mid (Err (Failed Read)) cycles bytes out all grew = absurd grew
-gives-written first mid (Err (Failed Write)) cycles bytes out all grew =
-    subst (λ (o : Outcome). GrewByPrefix out.before out.after o.bytes) (sym all.is) grew
-gives-written first mid (Err (Failed OutOfMemory)) cycles bytes out all grew = absurd grew
+module _ (first mid now : AudienceState) (cycles : ℕ) (out : SinkRun) where
+  gives-printed : (bytes : List ℕ) (result : Result (Unit {0}) (Stopped RecordFault)) → AllSeen first mid cycles bytes
+      → ReportsPrinted result cycles mid now out → Gives (BadRecord 0) result (salvage_reports_outcome first bytes) out
+  gives-printed bytes (Ok u) all p = (
+    ap (λ (o : Outcome). o.answer) all.is,
+    subst (λ (o : Outcome). Grew out.before out.after o.bytes) (sym all.is) p.2,
+  )
+  gives-printed bytes (Err (Refused f)) all p = absurd p
+  gives-printed bytes (Err (Failed Read)) all p = absurd p
+  gives-printed bytes (Err (Failed Write)) all p = subst (λ (o : Outcome). GrewByPrefix out.before out.after o.bytes) (sym all.is) p.2
+  gives-printed bytes (Err (Failed OutOfMemory)) all p = ([], prefix-none _, p)
 
-sees-written : (result : Result (Unit {0}) (Stopped RecordFault)) (first now : AudienceState) (bytes : List ℕ) → SawFirst first now bytes
-    → Sees result first now bytes
-sees-written (Ok u) first now bytes h = h
-sees-written (Err (Refused f)) first now bytes h = h
-sees-written (Err (Failed Read)) first now bytes h = h
-sees-written (Err (Failed Write)) first now bytes h = h
-sees-written (Err (Failed OutOfMemory)) first now bytes h = tt
+  sees-printed : (bytes : List ℕ) (result : Result (Unit {0}) (Stopped RecordFault)) → AllSeen first mid cycles bytes
+      → ReportsPrinted result cycles mid now out → UnlessNoMemory result (SawFirst first now bytes)
+  sees-printed bytes (Ok u) all p = saw-all first mid now cycles bytes all p.0 p.1
+  sees-printed bytes (Err (Refused f)) all p = absurd p
+  sees-printed bytes (Err (Failed Read)) all p = absurd p
+  sees-printed bytes (Err (Failed Write)) all p = saw-all first mid now cycles bytes all p.0 p.1
+  sees-printed bytes (Err (Failed OutOfMemory)) all p = tt
 
--- printing reads nothing
-reads-nothing : (result : Result (Unit {0}) (Stopped RecordFault)) (text : List ℕ) (out : SinkRun) → Written result text out
-    → result ≡ Err (Failed Read) → Grew out.before out.after []
-reads-nothing (Ok u) text out written e = absurd cc
-reads-nothing (Err (Refused f)) text out written e = absurd written
-reads-nothing (Err (Failed Read)) text out written e = absurd written
-reads-nothing (Err (Failed Write)) text out written e = absurd cc
-reads-nothing (Err (Failed OutOfMemory)) text out written e = absurd written
+  gone-printed : (result : Result (Unit {0}) (Stopped RecordFault)) → ReportsPrinted result cycles mid now out
+      → OnOk result (now.seeing ≡ [])
+  gone-printed (Ok u) p = p.1
+  gone-printed (Err stop) p = tt
 
-gone-written : (result : Result (Unit {0}) (Stopped RecordFault)) (now : AudienceState) → now.seeing ≡ [] → OnOk result (now.seeing ≡ [])
-gone-written (Ok u) now none = none
-gone-written (Err stop) now none = tt
+  -- printing reads nothing
+  broken-printed : (result : Result (Unit {0}) (Stopped RecordFault)) → ReportsPrinted result cycles mid now out
+      → result ≡ Err (Failed Read) → Grew out.before out.after []
+  broken-printed (Ok u) p e = absurd cc
+  broken-printed (Err (Refused f)) p e = absurd p
+  broken-printed (Err (Failed Read)) p e = absurd p
+  broken-printed (Err (Failed Write)) p e = absurd cc
+  broken-printed (Err (Failed OutOfMemory)) p e = p
 
 -- ---- the whole
 
-module _ {first mid : AudienceState} {watch : Watch} {shelf : ShelfRun} {slot : ℕ} where
+module _ {first mid : AudienceState} {printer : Printer} {shelf : ShelfRun} {slot : ℕ} where
   -- the reading stopped, and nothing was written
   pub ended-stopped : (read : Result (Unit {0}) (Stopped RecordFault)) (stop : Stopped RecordFault) (took : List ℕ → Type 0) (a b : ℕ)
-      → settled_by watch.has_begun read ≡ Err stop
-      → (h : ItemsRead read (watch_taking first mid watch) shelf slot no_sink)
+      → settled_by printer.has_begun read ≡ Err stop
+      → (h : ItemsRead read (showing Reports first mid printer) shelf slot discarded)
       → Ended (Err stop) first mid h.read shelf slot (record { before = took; after = took; faults_before = a; faults_after = b })
   ended-stopped read stop took a b settle_fault h = record {
-    gives = of-slot _ (λ bytes. Gives {T = Unit {0}} (Err stop) (salvage_reports_outcome first bytes)
-        (still first mid watch h.given [] took a b))
+    gives = of-slot _ (λ bytes. Gives {T = Unit {0}} (BadRecord 0) (Err stop) (salvage_reports_outcome first bytes)
+        (still first mid printer h.given [] took a b))
         (λ bytes r. (both bytes r).0) h.record_read;
-    sees = of-slot _ (λ bytes. Sees (Err stop) first mid bytes) (λ bytes r. (both bytes r).1) h.record_read;
+    sees = of-slot _ (λ bytes. UnlessNoMemory {T = Unit {0}} (Err stop) (SawFirst first mid bytes)) (λ bytes r. (both bytes r).1)
+        h.record_read;
     gone = tt;
     broken = λ e. grew-none took;
   }
     where
       is : read ≡ Err stop
-      is = settle_fault-failure watch.has_begun read stop settle_fault
+      is = settle_fault-failure printer.has_begun read stop settle_fault
 
-      both : (bytes : List ℕ) → RecordRead read (watch_taking first mid watch) h.given bytes no_sink
-          → Both first mid watch h.given bytes took a b stop
+      both : (bytes : List ℕ) → RecordRead read (showing Reports first mid printer) h.given bytes discarded
+          → Both first mid printer h.given bytes took a b stop
       both bytes r =
-          stopped first mid watch h.given bytes took a b stop
-          (subst (λ (x : Result (Unit {0}) (Stopped RecordFault)). settled_by watch.has_begun x ≡ Err stop) is settle_fault)
-          (subst (λ (x : Result (Unit {0}) (Stopped RecordFault)). RecordRead x (watch_taking first mid watch) h.given bytes no_sink) is r)
+          stopped first mid printer h.given bytes took a b stop
+          (subst (λ (x : Result (Unit {0}) (Stopped RecordFault)). settled_by printer.has_begun x ≡ Err stop) is settle_fault)
+          (subst (λ (x : Result (Unit {0}) (Stopped RecordFault)). RecordRead x (showing Reports first mid printer) h.given bytes
+          discarded) is r)
 
-  -- memory could not be had, and nothing was written
-  pub ended-unprinted : (read : Result (Unit {0}) (Stopped RecordFault)) (now : AudienceState) (took : List ℕ → Type 0) (a b : ℕ)
-      → (h : ItemsRead read (watch_taking first mid watch) shelf slot no_sink)
-      → Ended (Err (Failed OutOfMemory)) first now h.read shelf slot
-      (record { before = took; after = took; faults_before = a; faults_after = b })
-  ended-unprinted read now took a b h = record {
-    gives = of-slot _ (λ bytes. GrewByPrefix took took (salvage_reports_outcome first bytes).bytes)
-        (λ bytes r. part-none took took _ (same-none took)) h.record_read;
-    sees = of-slot _ (λ bytes. Unit {0}) (λ bytes r. tt) h.record_read;
-    gone = tt;
-    broken = λ e. grew-none took;
-  }
-
-  pub ended-written : (read result : Result (Unit {0}) (Stopped RecordFault)) (now : AudienceState) (text : List ℕ) (out : SinkRun)
-      → settled_by watch.has_begun read ≡ Ok tt → (h : ItemsRead read (watch_taking first mid watch) shelf slot no_sink)
-      → now.left ≡ reported mid [] → now.seeing ≡ [] → text ≡ number_line (codes "salvaged") watch.cycles ++ now.left
-      → Written result text out
-      → Ended result first now h.read shelf slot out
-  ended-written read result now text out settle_fault h left none is written = record {
-    gives = of-slot _ (λ bytes. Gives result (salvage_reports_outcome first bytes) out)
-        (λ bytes r. gives-written first mid result watch.cycles bytes out (all bytes r)
-        (subst (λ (t : List ℕ). Written result t out)
-        (is ∙ ap (λ (more : List ℕ). number_line (codes "salvaged") watch.cycles ++ more) left) written))
-        h.record_read;
-    sees = of-slot _ (λ bytes. Sees result first now bytes)
-        (λ bytes r. sees-written result first now bytes (saw-all first mid now watch.cycles bytes (all bytes r) left none)) h.record_read;
-    gone = gone-written result now none;
-    broken = reads-nothing result text out written;
+  -- all was read that can be saved
+  pub ended-printed : (read result : Result (Unit {0}) (Stopped RecordFault)) (now : AudienceState) (out : SinkRun)
+      → settled_by printer.has_begun read ≡ Ok tt → (h : ItemsRead read (showing Reports first mid printer) shelf slot discarded)
+      → ReportsPrinted result printer.cycles mid now out → Ended result first now h.read shelf slot out
+  ended-printed read result now out settle_fault h p = record {
+    gives = of-slot _ (λ bytes. Gives (BadRecord 0) result (salvage_reports_outcome first bytes) out)
+        (λ bytes r. gives-printed first mid now printer.cycles out bytes result (all bytes r) p) h.record_read;
+    sees = of-slot _ (λ bytes. UnlessNoMemory result (SawFirst first now bytes))
+        (λ bytes r. sees-printed first mid now printer.cycles out bytes result (all bytes r) p) h.record_read;
+    gone = gone-printed first mid now printer.cycles out result p;
+    broken = broken-printed first mid now printer.cycles out result p;
   }
     where
-      all : (bytes : List ℕ) → RecordRead read (watch_taking first mid watch) h.given bytes no_sink → AllSeen first mid watch.cycles bytes
-      all bytes r = settle_fault-seen first mid watch h.given bytes read settle_fault r
+      all : (bytes : List ℕ) → RecordRead read (showing Reports first mid printer) h.given bytes discarded
+          → AllSeen first mid printer.cycles bytes
+      all bytes r = settle_fault-seen first mid printer h.given bytes read settle_fault r
 
-  -- a watch writes nothing
+  -- no line was printed
   pub no-write : (read : Result (Unit {0}) (Stopped RecordFault)) (stop : Stopped RecordFault) {out : SinkRun}
-      → settled_by watch.has_begun read ≡ Err stop → ItemsRead read (watch_taking first mid watch) shelf slot no_sink
+      → settled_by printer.has_begun read ≡ Err stop → ItemsRead read (showing Reports first mid printer) shelf slot discarded
       → SinkTraffic out None → SinkTraffic out (failure_in {A = Unit {0}} (Err stop))
   no-write read stop {out} settle_fault h traffic = by stop (subst
-      (λ (x : Result (Unit {0}) (Stopped RecordFault)). RecordRead x (watch_taking first mid watch) h.given (h.read ++ []) no_sink)
-      (settle_fault-failure watch.has_begun read stop settle_fault) (h.record_read.each [] (λ end. refl)))
+      (λ (x : Result (Unit {0}) (Stopped RecordFault)). RecordRead x (showing Reports first mid printer) h.given (h.read ++ []) discarded)
+      (settle_fault-failure printer.has_begun read stop settle_fault) (h.record_read.each [] (λ end. refl)))
     where
-      by : (stop : Stopped RecordFault) → RecordRead (Err stop) (watch_taking first mid watch) h.given (h.read ++ []) no_sink
+      by : (stop : Stopped RecordFault) → RecordRead (Err stop) (showing Reports first mid printer) h.given (h.read ++ []) discarded
           → SinkTraffic out (failure_in {A = Unit {0}} (Err stop))
       by (Refused f) r = record { cause = λ e. absurd cc; counted = traffic.counted }
       by (Failed Read) r = record { cause = λ e. absurd cc; counted = traffic.counted }
-      by (Failed Write) r = absurd (no-write-at first mid watch h.given (h.read ++ []) r)
+      by (Failed Write) r = absurd (no-write-at first mid printer h.given (h.read ++ []) r)
       by (Failed OutOfMemory) r = record { cause = λ e. absurd cc; counted = traffic.counted }

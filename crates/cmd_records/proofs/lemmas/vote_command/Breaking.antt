@@ -24,7 +24,9 @@ use Rattle.cmd_records.proofs.lemmas.voter.Held.{held-nothing}
 use Rattle.cli_answers.specs.declared.answer.Answer.TheVariants.{ReadFault}
 use Rattle.cli_answers.specs.Answers.{failed}
 use Rattle.cli_answers.specs.Outcome.{KnowsBytes, known_bytes}
-use Rattle.cmd_records.specs.vote_command.Vote.{answer_of, CopyShows, VoteBreaksOff}
+use Rattle.cli_answers.proofs.AnswerMeets.{unwritten}
+use Rattle.cmd_records.specs.command_ends.Results.{answer_by}
+use Rattle.cmd_records.specs.vote_command.Vote.{split_answer, CopyShows, VoteBreaksOff}
 
 -- each slot has its copy left
 left-at : (state : ShelfState) (slots : List ℕ) (copies : List (List ℕ)) (k d : ℕ) (e : List ℕ) → AreLeft state slots copies
@@ -35,17 +37,17 @@ left-at state (s ∷ slots) (c ∷ copies) zero d e l less = l.0
 left-at state (s ∷ slots) (c ∷ copies) (suc k) d e l less = left-at state slots copies k d e l.1 (omega (arith, less))
 
 -- a name couldn't be opened
-pub unopened : (first last : ShelfState) (names : List (List ℕ)) (before : List ℕ → Type 0) (failure : Failure)
+pub unopened : (first last : ShelfState) (names : List (List ℕ)) (took : List ℕ → Type 0) (m n : ℕ) (failure : Failure)
     → (Some failure ≡ Some Read → last.slots < first.slots + length names) → 1 ≤ length names → failed failure ≡ ReadFault
-    → VoteBreaksOff first last names before before
-unopened first last names before Read fewer some e = record {
+    → VoteBreaksOff first last names (unwritten took m n)
+unopened first last names took m n Read fewer some e = record {
   rows = [];
   shown = inr (fewer refl, refl);
-  held = held-nothing (map (known_bytes first) names) (let n = length-map names (known_bytes first) in omega (arith, some, n));
-  grew = grew-none before;
+  held = held-nothing (map (known_bytes first) names) (let many = length-map names (known_bytes first) in omega (arith, some, many));
+  grew = grew-none took;
 }
-unopened first last names before Write fewer some e = absurd cc
-unopened first last names before OutOfMemory fewer some e = absurd cc
+unopened first last names took m n Write fewer some e = absurd cc
+unopened first last names took m n OutOfMemory fewer some e = absurd cc
 
 module _ {first mid : ShelfState} {slots here : List ℕ} (recorded : List (Bor (List ℕ))) (same : here ≡ slots)
     (opened : Opened first mid (texts recorded) slots) where
@@ -83,8 +85,8 @@ module _ {first mid : ShelfState} {slots here : List ℕ} (recorded : List (Bor 
 
   -- a copy couldn't be read further
   pub vote-broke : (last : ShelfState) (out : SinkRun) (result : Result Vote (Stopped NoMajority)) → HasVoted result mid last here out
-      → answer_of result ≡ ReadFault → KnowsBytes first (texts recorded)
-      → VoteBreaksOff first last (texts recorded) out.before out.after
+      → answer_by split_answer result ≡ ReadFault → KnowsBytes first (texts recorded)
+      → VoteBreaksOff first last (texts recorded) out
   vote-broke last out (Err (Failed Read)) h e is_known =
       let b : Breaks mid last here (map (known_bytes first) (texts recorded)) out =
       h.answers (map (known_bytes first) (texts recorded)) (are-left recorded same opened is_known) in

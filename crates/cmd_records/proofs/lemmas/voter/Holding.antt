@@ -20,6 +20,7 @@ use Rattle.copies.specs.declared.row.Row.{Row}
 use Rattle.copies.specs.declared.row.Row.TheVariants as rows
 use Rattle.copies.proofs.Equality.{item_decides}
 use Rattle.cmd_records.specs.declared.voter.majority.Holders.{Holders}
+use Rattle.cmd_records.specs.declared.voter.voter_rows.RowView.{RowView}
 use Rattle.cmd_records.specs.declared.voter.voter_rows.RowView.TheVariants as views
 use Rattle.cmd_records.specs.declared.voter.voter_rows.Voter.{Voter}
 use Rattle.cmd_records.specs.voter.Majority.{is_most}
@@ -33,6 +34,13 @@ held-item view place reader (Some (rows.Item x)) h = (x, refl, h)
 held-item view place reader (Some rows.Whole) h = absurd h
 held-item view place reader (Some (rows.Fault f)) h = absurd h
 held-item view place reader None h = absurd h
+
+-- a row that was read is an item
+pub read-item : {read : Option RowView} {view : ItemView} {place : Place} {reader : ItemReader} {row : Option Row}
+    → read ≡ Some (views.Item view) → HoldsAs read place reader row
+    → (x : Item) × (row ≡ Some (rows.Item x)) × HoldsAt place reader view x
+read-item {view = view} {place = place} {reader = reader} {row = row} is h =
+    held-item view place reader row (subst (λ (o : Option RowView). HoldsAs o place reader row) is h)
 
 pub held-whole : (place : Place) (reader : ItemReader) (row : Option Row) → HoldsAs (Some views.Whole) place reader row
     → row ≡ Some rows.Whole

@@ -60,19 +60,20 @@ voters_after-many n (b ∷ same) [] e = refl
 voters_after-many n [] (v ∷ voters) e = absurd (omega (arith, e))
 voters_after-many n (b ∷ same) (v ∷ voters) e = let rest = voters_after-many n same voters (omega (arith, e)) in omega (arith, rest)
 
--- a copy's reader stays, and its row
+-- what leaving doesn't change of a copy stays
+voters_after-part : {A : Type 0} (part : Voter → A) → ((b : Bool) (n : ℕ) (v : Voter) → part (voter_after b n v) ≡ part v)
+    → (n : ℕ) (same : List Bool) (voters : List Voter) (k : ℕ) (d e : Voter) → length voters ≡ length same
+    → k < length voters → part (get_or (voters_after n same voters) k d) ≡ part (get_or voters k e)
+voters_after-part part stays n same [] k d e all less = absurd (omega (arith, less))
+voters_after-part part stays n [] (v ∷ voters) k d e all less = absurd (omega (arith, all))
+voters_after-part part stays n (b ∷ same) (v ∷ voters) zero d e all less = stays b n v
+voters_after-part part stays n (b ∷ same) (v ∷ voters) (suc k) d e all less =
+    voters_after-part part stays n same voters k d e (omega (arith, all)) (omega (arith, less))
+
 pub voters_after-reader : (n : ℕ) (same : List Bool) (voters : List Voter) (k : ℕ) (d e : Voter) → length voters ≡ length same
     → k < length voters → (get_or (voters_after n same voters) k d).reader ≡ (get_or voters k e).reader
-voters_after-reader n same [] k d e all less = absurd (omega (arith, less))
-voters_after-reader n [] (v ∷ voters) k d e all less = absurd (omega (arith, all))
-voters_after-reader n (b ∷ same) (v ∷ voters) zero d e all less = refl
-voters_after-reader n (b ∷ same) (v ∷ voters) (suc k) d e all less =
-    voters_after-reader n same voters k d e (omega (arith, all)) (omega (arith, less))
+voters_after-reader = voters_after-part (λ v. v.reader) (λ b n v. refl)
 
 pub voters_after-row : (n : ℕ) (same : List Bool) (voters : List Voter) (k : ℕ) (d e : Voter) → length voters ≡ length same
     → k < length voters → (get_or (voters_after n same voters) k d).row ≡ (get_or voters k e).row
-voters_after-row n same [] k d e all less = absurd (omega (arith, less))
-voters_after-row n [] (v ∷ voters) k d e all less = absurd (omega (arith, all))
-voters_after-row n (b ∷ same) (v ∷ voters) zero d e all less = refl
-voters_after-row n (b ∷ same) (v ∷ voters) (suc k) d e all less =
-    voters_after-row n same voters k d e (omega (arith, all)) (omega (arith, less))
+voters_after-row = voters_after-part (λ v. v.row) (λ b n v. refl)

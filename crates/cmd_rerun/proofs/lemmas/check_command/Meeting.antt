@@ -5,7 +5,6 @@ use Rattle.det_values.specs.Values.{ProfileValue}
 use Rattle.det_values.specs.declared.job_kind.JobKind.{JobKind}
 use Rattle.det_io.specs.Count.{Rose}
 use Rattle.det_io.specs.Shelf.{Reads}
-use Rattle.det_io.specs.Sink.{Same}
 use Rattle.det_io.specs.Traffic.{ShelfRun, SinkRun}
 use Rattle.det_io.proofs.Growth.{same-then-grew, grew-same}
 use Rattle.det_io.specs.declared.failure.Failure.TheVariants as failures
@@ -26,7 +25,7 @@ use Rattle.cli_answers.specs.declared.answer.Answer.{Answer}
 use Rattle.cli_answers.specs.declared.answer.Answer.TheVariants.{BadRecord, OutOfMemory}
 use Rattle.cli_answers.specs.Answers.{stopped}
 use Rattle.cli_answers.specs.Outcome.{Outcome, Meets, refusal}
-use Rattle.cli_answers.proofs.AnswerMeets.{meets-read-fault, meets-no-memory, meets-refusal}
+use Rattle.cli_answers.proofs.AnswerMeets.{unwritten, meets-read-fault, meets-no-memory, meets-refusal}
 use Rattle.run_setup.specs.declared.recorded_run.bad_run.BadRun.{BadRun}
 use Rattle.run_setup.specs.recorded_run.Run.{RunValue, over_run, refused}
 use Rattle.cmd_rerun.specs.check_command.Check.{outcome_by, checked_with}
@@ -40,10 +39,14 @@ checked_by audience record_bytes named =
 at-told : (left : Option (List ℕ)) (rest : List ℕ) (P : List ℕ → Type 0) → left ≡ Some rest → IfSome left P → P rest
 at-told left rest P e p = rw e at p
 
+-- a run of a sink, from what it took and its faults before and after
+abbrev run_from : (before : List ℕ → Type 0) (faults : ℕ) (after : List ℕ → Type 0) (faults_after : ℕ) → SinkRun
+run_from before faults after faults_after =
+    record { before = before; after = after; faults_before = faults; faults_after = faults_after }
+
 -- what was printed is the outcome, where the rest of the record is known
-meets-printed : {wanted printed : Outcome} {is_known rose other : Type 0} {before after : List ℕ → Type 0} {answer : Answer}
-    → (is_known → wanted ≡ printed) → Meets printed (Unit {0}) ⊥ other before after answer
-    → Meets wanted is_known rose other before after answer
+meets-printed : {wanted printed : Outcome} {is_known rose : Type 0} {out : SinkRun} {answer : Answer} → (is_known → wanted ≡ printed)
+    → Meets printed (Unit {0}) ⊥ out answer → Meets wanted is_known rose out answer
 meets-printed is m = record {
   part = λ t. rw (is t) (m.part tt);
   whole = λ t. rw (is t) (m.whole tt);
@@ -52,41 +55,42 @@ meets-printed is m = record {
 }
 
 -- nothing was written before or after what was
-same-first : {wanted : Outcome} {is_known rose other : Type 0} {before mid after : List ℕ → Type 0} {answer : Answer} → Same before mid
-    → Meets wanted is_known rose other mid after answer → Meets wanted is_known rose other before after answer
-same-first same m = record {
-  part = λ t. let p = m.part t in (p.0, p.1, same-then-grew same p.2);
-  whole = λ t. elim (m.whole t) [
-    | inl read ↦ inl read
-    | inr more ↦ inr (elim more [
-      | inl write ↦ inl write
-      | inr rest ↦ inr (elim rest [
-        | inl memory ↦ inl memory
-        | inr all ↦ inr (all.0, same-then-grew same all.1)
+module _ {wanted : Outcome} {is_known rose : Type 0} {answer : Answer} (sink : SinkRun) (untouched : IsUntouched sink) where
+  same-first : (last : List ℕ → Type 0) (faults : ℕ) → Meets wanted is_known rose (run_from sink.after sink.faults_after last faults) answer
+      → Meets wanted is_known rose (run_from sink.before sink.faults_before last faults) answer
+  same-first last faults m = record {
+    part = λ t. let p = m.part t in (p.0, p.1, same-then-grew untouched.took p.2);
+    whole = λ t. elim (m.whole t) [
+      | inl read ↦ inl read
+      | inr more ↦ inr (elim more [
+        | inl write ↦ inl write
+        | inr rest ↦ inr (elim rest [
+          | inl memory ↦ inl memory
+          | inr all ↦ inr (all.0, same-then-grew untouched.took all.1)
+        ])
       ])
-    ])
-  ];
-  read_fault = m.read_fault;
-  write_fault = m.write_fault;
-}
+    ];
+    read_fault = m.read_fault;
+    write_fault = λ e. subst (λ (k : ℕ). Rose k faults) untouched.faults (m.write_fault e);
+  }
 
-same-last : {wanted : Outcome} {is_known rose other : Type 0} {before mid after : List ℕ → Type 0} {answer : Answer} → Same mid after
-    → Meets wanted is_known rose other before mid answer → Meets wanted is_known rose other before after answer
-same-last same m = record {
-  part = λ t. let p = m.part t in (p.0, p.1, grew-same p.2 same);
-  whole = λ t. elim (m.whole t) [
-    | inl read ↦ inl read
-    | inr more ↦ inr (elim more [
-      | inl write ↦ inl write
-      | inr rest ↦ inr (elim rest [
-        | inl memory ↦ inl memory
-        | inr all ↦ inr (all.0, grew-same all.1 same)
+  same-last : Meets wanted is_known rose (unwritten sink.before sink.faults_before sink.faults_after) answer
+      → Meets wanted is_known rose sink answer
+  same-last m = record {
+    part = λ t. let p = m.part t in (p.0, p.1, grew-same p.2 untouched.took);
+    whole = λ t. elim (m.whole t) [
+      | inl read ↦ inl read
+      | inr more ↦ inr (elim more [
+        | inl write ↦ inl write
+        | inr rest ↦ inr (elim rest [
+          | inl memory ↦ inl memory
+          | inr all ↦ inr (all.0, grew-same all.1 untouched.took)
+        ])
       ])
-    ])
-  ];
-  read_fault = m.read_fault;
-  write_fault = m.write_fault;
-}
+    ];
+    read_fault = m.read_fault;
+    write_fault = m.write_fault;
+  }
 
 module _ {S G E L P : Type 0} (m : Meaning S G E L P) (profile : ProfileValue) (frames : FrameReader) (read : List ℕ)
     (stands : StandsFor frames read (Header profile ∷ [])) (shelf : ShelfRun) (sink : SinkRun) (old now : AudienceState) where
@@ -107,22 +111,21 @@ module _ {S G E L P : Type 0} (m : Meaning S G E L P) (profile : ProfileValue) (
   pub no-write : HasChecked m profile frames shelf sink old now (Err (Failed failures.Write)) → ⊥
   no-write h = (h.checked read stands).run.1.answers.each [] (λ end. refl)
 
-  met-stopped : (stop : Stopped RecordFault) (rest : List ℕ) (failed : Type 0)
-      → HasChecked m profile frames shelf sink old now (Err stop)
+  met-stopped : (stop : Stopped RecordFault) (rest : List ℕ) → HasChecked m profile frames shelf sink old now (Err stop)
       → Meets (checked_with m profile old (read ++ rest)) (shelf.first.left (slot_of frames) ≡ Some rest)
-      (Rose shelf.first.faults shelf.last.faults) failed sink.before sink.before (stopped stop)
-  met-stopped (Refused fault) rest failed h =
+      (Rose shelf.first.faults shelf.last.faults) (unwritten sink.before sink.faults_before sink.faults_after) (stopped stop)
+  met-stopped (Refused fault) rest h =
       meets-refusal (checked_with m profile old (read ++ rest)) (shelf.first.left (slot_of frames) ≡ Some rest)
-      (Rose shelf.first.faults shelf.last.faults) failed sink.before (BadRecord 0 fault) (λ e. cc) (λ e. cc)
+      (Rose shelf.first.faults shelf.last.faults) sink.before sink.faults_before sink.faults_after (BadRecord 0 fault) (λ e. cc) (λ e. cc)
       (λ told. ap (λ (v : Result CheckVerdict RecordFault). outcome_by v (reported old (checked_runs m profile (read ++ rest))))
       (answers (Err (Refused fault)) rest h told).0)
-  met-stopped (Failed failures.Read) rest failed h =
+  met-stopped (Failed failures.Read) rest h =
       meets-read-fault (checked_with m profile old (read ++ rest)) (shelf.first.left (slot_of frames) ≡ Some rest)
-      (Rose shelf.first.faults shelf.last.faults) failed sink.before (h.traffic.cause refl)
-  met-stopped (Failed failures.Write) rest failed h = absurd (no-write h)
-  met-stopped (Failed failures.OutOfMemory) rest failed h =
+      (Rose shelf.first.faults shelf.last.faults) sink.before sink.faults_before sink.faults_after (h.traffic.cause refl)
+  met-stopped (Failed failures.Write) rest h = absurd (no-write h)
+  met-stopped (Failed failures.OutOfMemory) rest h =
       meets-no-memory (checked_with m profile old (read ++ rest)) (shelf.first.left (slot_of frames) ≡ Some rest)
-      (Rose shelf.first.faults shelf.last.faults) failed sink.before
+      (Rose shelf.first.faults shelf.last.faults) sink.before sink.faults_before sink.faults_after
 
 -- with the job of a kind
 module _ (kind : JobKind) (profile : ProfileValue) (frames : FrameReader) (read : List ℕ)
@@ -135,40 +138,38 @@ module _ (kind : JobKind) (profile : ProfileValue) (frames : FrameReader) (read 
 
   -- the line of a verdict was printed, and the reports
   pub met-verdict : (verdict : CheckVerdict) (rest : List ℕ) (last : List ℕ → Type 0) (faults : ℕ) (answer : Answer) → result ≡ Ok verdict
-      → Meets (outcome_by (Ok verdict) (reported now [])) (Unit {0}) ⊥ (Rose sink.faults_after faults) sink.after last answer
+      → Meets (outcome_by (Ok verdict) (reported now [])) (Unit {0}) ⊥ (run_from sink.after sink.faults_after last faults) answer
       → Meets (checked kind profile old (read ++ rest)) (shelf.first.left (slot_of frames) ≡ Some rest)
-      (Rose shelf.first.faults shelf.last.faults) (Rose sink.faults_before faults) sink.before last answer
+      (Rose shelf.first.faults shelf.last.faults) (run_from sink.before sink.faults_before last faults) answer
   met-verdict verdict rest last faults answer is met =
       meets-printed (by_kind-then (λ S G E L P m. checked_with m profile old (read ++ rest))
       (λ S G E L P m. HasChecked m profile frames shelf sink old now result)
       (λ wanted. shelf.first.left (slot_of frames) ≡ Some rest → wanted ≡ outcome_by (Ok verdict) (reported now []))
       (λ S G E L P m h. outcome-is m profile frames read stands shelf sink old now verdict rest
       (subst (λ (r : Result CheckVerdict (Stopped RecordFault)). HasChecked m profile frames shelf sink old now r) is h)) kind visited)
-      (same-first untouched.took
-      (subst (λ (k : ℕ). Meets (outcome_by (Ok verdict) (reported now [])) (Unit {0}) ⊥ (Rose k faults) sink.after last answer)
-      untouched.faults met))
+      (same-first sink untouched last faults met)
 
   -- the check stopped, and nothing was printed
-  pub met-stop : (stop : Stopped RecordFault) (rest : List ℕ) (failed : Type 0) (answer : Answer) → result ≡ Err stop
-      → answer ≡ stopped stop
+  pub met-stop : (stop : Stopped RecordFault) (rest : List ℕ) (answer : Answer) → result ≡ Err stop → answer ≡ stopped stop
       → Meets (checked kind profile old (read ++ rest)) (shelf.first.left (slot_of frames) ≡ Some rest)
-      (Rose shelf.first.faults shelf.last.faults) failed sink.before sink.after answer
-  met-stop stop rest failed answer is answered =
-      rw answered (same-last untouched.took
+      (Rose shelf.first.faults shelf.last.faults) sink answer
+  met-stop stop rest answer is answered =
+      rw answered (same-last sink untouched
       (by_kind-then (λ S G E L P m. checked_with m profile old (read ++ rest))
       (λ S G E L P m. HasChecked m profile frames shelf sink old now result)
-      (λ wanted. Meets wanted (shelf.first.left (slot_of frames) ≡ Some rest) (Rose shelf.first.faults shelf.last.faults) failed sink.before
-      sink.before (stopped stop))
-      (λ S G E L P m h. met-stopped m profile frames read stands shelf sink old now stop rest failed
+      (λ wanted. Meets wanted (shelf.first.left (slot_of frames) ≡ Some rest) (Rose shelf.first.faults shelf.last.faults)
+      (unwritten sink.before sink.faults_before sink.faults_after) (stopped stop))
+      (λ S G E L P m h. met-stopped m profile frames read stands shelf sink old now stop rest
       (subst (λ (r : Result CheckVerdict (Stopped RecordFault)). HasChecked m profile frames shelf sink old now r) is h)) kind visited))
 
   -- memory couldn't be had, and nothing was printed
-  pub met-unprinted : (rest : List ℕ) (failed : Type 0)
+  pub met-unprinted : (rest : List ℕ)
       → Meets (checked kind profile old (read ++ rest)) (shelf.first.left (slot_of frames) ≡ Some rest)
-      (Rose shelf.first.faults shelf.last.faults) failed sink.before sink.after OutOfMemory
-  met-unprinted rest failed =
-      same-last untouched.took (meets-no-memory (checked kind profile old (read ++ rest)) (shelf.first.left (slot_of frames) ≡ Some rest)
-      (Rose shelf.first.faults shelf.last.faults) failed sink.before)
+      (Rose shelf.first.faults shelf.last.faults) sink OutOfMemory
+  met-unprinted rest =
+      same-last sink untouched
+      (meets-no-memory (checked kind profile old (read ++ rest)) (shelf.first.left (slot_of frames) ≡ Some rest)
+      (Rose shelf.first.faults shelf.last.faults) sink.before sink.faults_before sink.faults_after)
 
   -- all that it read was of its slot
   abbrev ReadsSlot : Type 0

@@ -46,9 +46,6 @@ module _ {S G E L P : Type 0} (m : Meaning S G E L P) (profile : ProfileValue) (
   abbrev rose : Type 0
   rose = Rose shelf.first.faults shelf.last.faults
 
-  abbrev failed : Type 0
-  failed = Rose out.faults_before out.faults_after
-
   part : (result : Result Counts (Stopped RecordFault)) → IsReplayed m profile read slot shelf out result → is_known
       → GrewByPrefix out.before out.after (replay_record m profile (read ++ rest))
   part result r told =
@@ -71,7 +68,7 @@ module _ {S G E L P : Type 0} (m : Meaning S G E L P) (profile : ProfileValue) (
   -- by its end
   met-replayed : (result : Result Counts (Stopped RecordFault)) → IsReplayed m profile read slot shelf out result
       → ShelfTraffic shelf (failure_in result) → SinkTraffic out (failure_in result)
-      → Meets (replayed_with m profile (read ++ rest)) is_known rose failed out.before out.after (answer_of result)
+      → Meets (replayed_with m profile (read ++ rest)) is_known rose out (answer_of result)
   met-replayed (Ok counts) r reads writes = record {
     part = part (Ok counts) r;
     whole = λ t. inr (inr (inr (ap by_fault (sym (finished counts r t).whole), (finished counts r t).grew)));
@@ -85,13 +82,13 @@ module _ {S G E L P : Type 0} (m : Meaning S G E L P) (profile : ProfileValue) (
     write_fault = λ e. cc;
   }
   met-replayed (Err (Failed Read)) r reads writes =
-      meets-read-fault-part (replayed_with m profile (read ++ rest)) is_known rose failed out.before out.after
+      meets-read-fault-part (replayed_with m profile (read ++ rest)) is_known rose out
       (part (Err (Failed Read)) r) (reads.cause refl)
   met-replayed (Err (Failed Write)) r reads writes =
-      meets-write-fault (replayed_with m profile (read ++ rest)) is_known rose failed out.before out.after
+      meets-write-fault (replayed_with m profile (read ++ rest)) is_known rose out
       (part (Err (Failed Write)) r) (writes.cause refl)
   met-replayed (Err (Failed OutOfMemory)) r reads writes =
-      meets-no-memory-part (replayed_with m profile (read ++ rest)) is_known rose failed out.before out.after
+      meets-no-memory-part (replayed_with m profile (read ++ rest)) is_known rose out
       (part (Err (Failed OutOfMemory)) r)
 
 module _ (kind : JobKind) (profile : ProfileValue) (frames : FrameReader) (read : List ℕ) (shelf : ShelfRun) (out : SinkRun)
@@ -100,12 +97,12 @@ module _ (kind : JobKind) (profile : ProfileValue) (frames : FrameReader) (read 
   -- with the job of a kind it meets the outcome of that kind
   pub met-by-kind : (rest : List ℕ) (answer : Answer) → answer ≡ answer_of result
       → Meets (replayed kind profile (read ++ rest)) (shelf.first.left (slot_of frames) ≡ Some rest)
-      (Rose shelf.first.faults shelf.last.faults) (Rose out.faults_before out.faults_after) out.before out.after answer
+      (Rose shelf.first.faults shelf.last.faults) out answer
   met-by-kind rest answer is =
       rw is (by_kind-then (λ S G E L P m. replayed_with m profile (read ++ rest))
       (λ S G E L P m. HasReplayed m profile frames shelf out result)
       (λ wanted. Meets wanted (shelf.first.left (slot_of frames) ≡ Some rest) (Rose shelf.first.faults shelf.last.faults)
-      (Rose out.faults_before out.faults_after) out.before out.after (answer_of result))
+      out (answer_of result))
       (λ S G E L P m r. met-replayed m profile read rest (slot_of frames) shelf out result (r.replayed read stands) r.shelf_traffic
       r.sink_traffic) kind visited)
 

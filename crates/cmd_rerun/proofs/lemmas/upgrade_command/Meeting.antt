@@ -95,9 +95,6 @@ module _ {S G E L P : Type 0} (m : Meaning S G E L P) (profile : ProfileValue) w
     abbrev rose : Type 0
     rose = Rose shelf.first.faults shelf.last.faults
 
-    abbrev failed : Type 0
-    failed = Rose out.faults_before out.faults_after
-
     answered : (result : Result CheckVerdict (Stopped RecordFault)) → IsUpgraded m profile read slot shelf out result → is_known
         → Answers m profile result (read ++ rest) out
     answered result u told = at-told (shelf.first.left slot) rest (λ more. Answers m profile result (read ++ more) out) told u.told
@@ -109,7 +106,7 @@ module _ {S G E L P : Type 0} (m : Meaning S G E L P) (profile : ProfileValue) w
     -- it came to a verdict, or to a fault
     met-verdict : (verdict : Result CheckVerdict RecordFault) → (is_known → Answers m profile (ended_as verdict) (read ++ rest) out)
         → IsUpgraded m profile read slot shelf out (ended_as verdict)
-        → Meets (upgraded_with m profile (read ++ rest)) is_known rose failed out.before out.after (answer_of (ended_as verdict))
+        → Meets (upgraded_with m profile (read ++ rest)) is_known rose out (answer_of (ended_as verdict))
     met-verdict (Ok verdict) each u = record {
       part = part (Ok verdict) u;
       whole = λ t. inr (inr (inr (
@@ -132,17 +129,17 @@ module _ {S G E L P : Type 0} (m : Meaning S G E L P) (profile : ProfileValue) w
     -- by its end
     met-upgraded : (result : Result CheckVerdict (Stopped RecordFault)) → IsUpgraded m profile read slot shelf out result
         → ShelfTraffic shelf (failure_in result) → SinkTraffic out (failure_in result)
-        → Meets (upgraded_with m profile (read ++ rest)) is_known rose failed out.before out.after (answer_of result)
+        → Meets (upgraded_with m profile (read ++ rest)) is_known rose out (answer_of result)
     met-upgraded (Ok verdict) u reads writes = met-verdict (Ok verdict) (answered (Ok verdict) u) u
     met-upgraded (Err (Refused fault)) u reads writes = met-verdict (Err fault) (answered (Err (Refused fault)) u) u
     met-upgraded (Err (Failed Read)) u reads writes =
-        meets-read-fault-part (upgraded_with m profile (read ++ rest)) is_known rose failed out.before out.after
+        meets-read-fault-part (upgraded_with m profile (read ++ rest)) is_known rose out
         (part (Err (Failed Read)) u) (reads.cause refl)
     met-upgraded (Err (Failed Write)) u reads writes =
-        meets-write-fault (upgraded_with m profile (read ++ rest)) is_known rose failed out.before out.after
+        meets-write-fault (upgraded_with m profile (read ++ rest)) is_known rose out
         (part (Err (Failed Write)) u) (writes.cause refl)
     met-upgraded (Err (Failed OutOfMemory)) u reads writes =
-        meets-no-memory-part (upgraded_with m profile (read ++ rest)) is_known rose failed out.before out.after
+        meets-no-memory-part (upgraded_with m profile (read ++ rest)) is_known rose out
         (part (Err (Failed OutOfMemory)) u)
 
 -- ---- by the job of a kind
@@ -165,12 +162,12 @@ module _ (kind : JobKind) (profile : ProfileValue) (original : Original) (shelf 
   -- with the job of a kind it meets the outcome of that kind
   pub met-by-kind : (rest : List ℕ) (answer : Answer) → answer ≡ answer_of result
       → Meets (upgraded_by_kind kind profile (read ++ rest)) (shelf.first.left (slot_of original.frames) ≡ Some rest)
-      (Rose shelf.first.faults shelf.last.faults) (Rose out.faults_before out.faults_after) out.before out.after answer
+      (Rose shelf.first.faults shelf.last.faults) out answer
   met-by-kind rest answer is =
       rw is (by_kind-then (λ S G E L P m. upgraded_with m profile (read ++ rest))
       (λ S G E L P m. HasUpgraded m (in_format_two profile) original shelf out result)
       (λ wanted. Meets wanted (shelf.first.left (slot_of original.frames) ≡ Some rest) (Rose shelf.first.faults shelf.last.faults)
-      (Rose out.faults_before out.faults_after) out.before out.after (answer_of result))
+      out (answer_of result))
       (λ S G E L P m has. met-upgraded m profile read rest (slot_of original.frames) shelf out result (has-upgraded m has)
       has.shelf_traffic has.sink_traffic) kind visited)
 

@@ -183,13 +183,13 @@ module _ {S G E L P : Type 0} (m : Meaning S G E L P) (first : ProfileValue) {T 
       {recording : Recording S G E L P} {other : Recording T H F M Q} {read : List ℕ} {given : List CycleInput}
       (running : Running m first n second shelf.first mid slot sinks reader recording other read given) where
     -- the frames of the next cycle weren't both written
-    pub cycle_both-failed : (input : CycleInput) (failure : Failure) (all : List ℕ) → Reads shelf.first shelf.last slot all
+    pub cycle_chain-failed : (input : CycleInput) (failure : Failure) (all : List ℕ) → Reads shelf.first shelf.last slot all
         → IsNext input (length first.events) all given
         → IsCut failure
         → GrewByPrefix sinks.first.after step.first.after (first_frame m n first second given input)
         → GrewByPrefix sinks.second.after step.second.after (second_frame m n first second given input)
         → HasRun slot shelf (joined sinks step) (Err (Failed failure))
-    cycle_both-failed input failure all reads next cut one two = (
+    cycle_chain-failed input failure all reads next cut one two = (
       all,
       reads,
       cut-off failure all (IsAtEnd shelf.last slot) (joined sinks step) cut

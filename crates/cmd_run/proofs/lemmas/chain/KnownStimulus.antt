@@ -23,10 +23,10 @@ told : (before after : ShelfState) (slot : ℕ) (read : List ℕ) (P : List ℕ 
     → ((rest : List ℕ) → (IsAtEnd after slot → rest ≡ []) → P (read ++ rest)) → IfSome (before.left slot) P
 told before after slot read P reads each = subst (λ left. IfSome left P) (sym reads.left) (told-left read P (after.left slot) each)
 
-pub chained : {S G E L P : Type 0} (m : Meaning S G E L P) (first : ProfileValue) {T H F M Q : Type 0} (n : Meaning T H F M Q)
-    (second : ProfileValue) (slot : ℕ) (shelf : ShelfRun) (sinks : Sinks) (result : Result ChainCounts (Stopped StimulusFault))
+pub chained : {S G E L P : Type 0} {m : Meaning S G E L P} {first : ProfileValue} {T H F M Q : Type 0} {n : Meaning T H F M Q}
+    {second : ProfileValue} (slot : ℕ) (shelf : ShelfRun) (sinks : Sinks) (result : Result ChainCounts (Stopped StimulusFault))
     → HasRun m first n second slot shelf sinks result → IsChained m first n second slot shelf sinks result
-chained m first n second slot shelf sinks result (read, reads, ended) = record {
+chained {m = m} {first = first} {n = n} {second = second} slot shelf sinks result (read, reads, ended) = record {
   answers = told shelf.first shelf.last slot read (λ text. Answers m first n second result text sinks) reads ended.answers;
   run = (read, reads, ended);
 }

@@ -1,11 +1,12 @@
 -- How the records of a chain grow, cycle by cycle, and how their writing is cut off.
-use Rattle.std.proofs.Common.{◌≡◌, ℕ, List, [], ◌∷◌, ◌++◌, length, map, sym, ap, ◌∙◌}
+use Rattle.std.proofs.Common.{◌≡◌, ℕ, List, [], ◌∷◌, ◌++◌, length, map, sym, ap, subst, ◌∙◌}
 use Rattle.std.specs.Prelude.{Bool, true, false}
 use Rattle.std.proofs.lemmas.List.{map-append, length-map}
 use Rattle.det_values.specs.Values.{ProfileValue}
 use Rattle.det_values.specs.declared.frames.CycleInput.{CycleInput}
 use Rattle.det_values.specs.declared.frames.RunFrame.{RunFrame}
-use Rattle.det_values.specs.declared.frames.Frame.TheVariants.{Terminate}
+use Rattle.det_values.specs.declared.format.Format.{Format}
+use Rattle.det_values.specs.declared.frames.Frame.TheVariants.{Run, Terminate}
 use Rattle.det_io.specs.Prefix.{IsPrefix}
 use Rattle.det_io.specs.Sink.{Grew, GrewByPrefix, Same}
 use Rattle.det_io.specs.declared.failure.Failure.{Failure}
@@ -20,7 +21,7 @@ use Rattle.recorder.specs.run_writer.Record.{record_with, opening}
 use Rattle.recorder.specs.run_writer.Record.{Counted as RecordCounted}
 use Rattle.recorder.specs.run_writer.Recording.{Cuts}
 use Rattle.recorder.proofs.lemmas.run_writer.Growing.{runs-none, record-opened, record-next, record-ended, record-front}
-use Rattle.cmd_run.specs.chain.OutputSamples.{derived, derived_input}
+use Rattle.cmd_run.specs.chain.OutputSamples.{derived, chained_input}
 use Rattle.cmd_run.specs.chain.SecondClient.{passed_on, second_with}
 use Rattle.cmd_run.specs.chain.ChainEnds.{Sinks, Counted}
 use Rattle.cmd_run.specs.chain.ChainCycle.{IsCut, CutOff, next_run, next_input, second_frame}
@@ -62,29 +63,34 @@ cut-second failure sinks bytes others grew cut = record {
   };
 }
 
+-- the frame of a cycle is that of the run that it is
+pub grew-run : {before after : List ℕ → Type 0} (format : Format) (run next : RunFrame) → run ≡ next
+    → Grew before after (spelled_frame format (Run run)) → Grew before after (spelled_frame format (Run next))
+grew-run {before} {after} format run next is grew = subst (λ (r : RunFrame). Grew before after (spelled_frame format (Run r))) is grew
+
 module _ {S G E L P : Type 0} (m : Meaning S G E L P) (first : ProfileValue) where
   -- one input more gives one more to the second client
   pub derived-next : (events : ℕ) (given : List CycleInput) (input : CycleInput)
       → derived m first (given ++ input ∷ []) events ≡ derived m first given events
-      ++ derived_input events (next_run m first given input) ∷ []
-  derived-next events given input = ap (map (derived_input events)) (runs-append m first given input)
-      ∙ map-append (derived_input events) (runs m first given) (next_run m first given input ∷ [])
+      ++ chained_input events (next_run m first given input) ∷ []
+  derived-next events given input = ap (map (chained_input events)) (runs-append m first given input)
+      ∙ map-append (chained_input events) (runs m first given) (next_run m first given input ∷ [])
 
   -- no input gives none
   pub derived-none : (events : ℕ) → derived m first [] events ≡ []
-  derived-none events = ap (map (derived_input events)) (runs-none m first)
+  derived-none events = ap (map (chained_input events)) (runs-none m first)
 
   -- as many as the first client has
   pub length-derived : (events : ℕ) (given : List CycleInput) → length (derived m first given events) ≡ length given
-  length-derived events given = length-map (runs m first given) (derived_input events) ∙ length-runs m first [] given (first_state m first)
+  length-derived events given = length-map (runs m first given) (chained_input events) ∙ length-runs m first [] given (first_state m first)
 
   -- those of first inputs come first
   pub derived-front : (events : ℕ) (given inputs : List CycleInput) → IsPrefix given inputs
       → IsPrefix (derived m first given events) (derived m first inputs events)
   derived-front events given inputs (rest, is) = (
-    map (derived_input events) (runs_after_inputs m first ([] ++ given) (state_of m first given) rest),
-    sym (map-append (derived_input events) (runs m first given) (runs_after_inputs m first ([] ++ given) (state_of m first given) rest))
-        ∙ ap (map (derived_input events)) (sym (runs_after_inputs-append m first [] given rest (first_state m first)))
+    map (chained_input events) (runs_after_inputs m first ([] ++ given) (state_of m first given) rest),
+    sym (map-append (chained_input events) (runs m first given) (runs_after_inputs m first ([] ++ given) (state_of m first given) rest))
+        ∙ ap (map (chained_input events)) (sym (runs_after_inputs-append m first [] given rest (first_state m first)))
         ∙ ap (λ xs. derived m first xs events) is,
   )
 
@@ -124,10 +130,10 @@ module _ {S G E L P : Type 0} (m : Meaning S G E L P) (first : ProfileValue) whe
 
     -- what the second client was given is what the first one gives it
     pub passed-is : (given : List CycleInput) (input : CycleInput) (events : ℕ) (run : RunFrame) (passed : CycleInput)
-        → passed ≡ derived_input events run → events ≡ length second.events → run ≡ next_run m first given input
+        → passed ≡ chained_input events run → events ≡ length second.events → run ≡ next_run m first given input
         → passed ≡ next_input m n first second given input
-    passed-is given input events run passed is count ran = is ∙ ap (λ k. derived_input k run) count
-        ∙ ap (derived_input (length second.events)) ran
+    passed-is given input events run passed is count ran = is ∙ ap (λ k. chained_input k run) count
+        ∙ ap (chained_input (length second.events)) ran
 
     -- after it the second client has run all that the first one gives
     pub passed-next : (given : List CycleInput) (input passed : CycleInput) (one other : ProfileValue) → one ≡ first → other ≡ second

@@ -1,5 +1,5 @@
 -- A chain on its way: the stimulus read, its blocks run by the first client, their outputs by the second, and both records written.
-use Rattle.std.proofs.Common.{◌≡◌, ◌≤◌, ◌<◌, ℕ, List, [], ◌∷◌, ◌++◌, length, sym, subst, arith, length-append}
+use Rattle.std.proofs.Common.{◌≡◌, ◌≤◌, ◌<◌, ℕ, List, [], ◌∷◌, ◌++◌, length, sym, ap, subst, arith, length-append}
 use Rattle.std.specs.Prelude.{false, Option, Some, None, Result, Ok, Err}
 use Rattle.det_values.specs.Values.{ProfileValue}
 use Rattle.det_values.specs.declared.frames.CycleInput.{CycleInput}
@@ -18,26 +18,15 @@ use Rattle.stimulus.specs.declared.stimulus_item.StimulusFault.{StimulusFault}
 use Rattle.recorder.specs.declared.run_writer.recording.Recording.{Recording}
 use Rattle.recorder.specs.run_writer.Record.{record_with, opening}
 use Rattle.recorder.specs.run_writer.Recording.{IsRecordingAfter}
+use Rattle.recorder.proofs.Running.{Answered}
 use Rattle.recorder.proofs.lemmas.run_writer.Growing.{record-opened, record-next}
 use Rattle.stimulus.specs.declared.slot_reader.stimulus_reader.StimulusReader.{StimulusReader}
-use Rattle.stimulus.specs.slot_reader.StandsFor.{StandsFor, InputIs, ReadsIfNeeded, slot_of, events_of}
+use Rattle.stimulus.specs.slot_reader.StandsFor.{StandsFor, InputIs, IsNext, IsWhole, slot_of, events_of}
 use Rattle.cmd_run.specs.declared.chain.chain_counts.ChainCounts.{ChainCounts}
 use Rattle.cmd_run.specs.chain.SecondClient.{second_with}
 use Rattle.cmd_run.specs.chain.ChainEnds.{Sinks, BothGrew}
 use Rattle.cmd_run.specs.chain.ChainCycle.{IsCut, AreBothAfter, BothTraffic, first_frame, second_frame}
 use Rattle.cmd_run.proofs.lemmas.chain.Linking.{derived-none, second-opened, second-next}
-
--- what the reader returns, for all bytes that it can have read
-abbrev pub Answered : Result (Option CycleInput) (Stopped StimulusFault) → ShelfState → ShelfState → StimulusReader → StimulusReader
-    → Type 0
-Answered answer mid now old new = (more : List ℕ) × Reads mid now (slot_of old) more
-    × ((read : List ℕ) (given : List CycleInput) → StandsFor old read given
-    → ReadsIfNeeded (events_of old) read given more × InputIs answer new (IsAtEnd now (slot_of old)) (read ++ more) given)
-
-pub answered-as : (answer other : Result (Option CycleInput) (Stopped StimulusFault)) (mid now : ShelfState) (old new : StimulusReader)
-    → answer ≡ other
-    → Answered answer mid now old new → Answered other mid now old new
-answered-as answer other mid now old new is h = subst (λ a. Answered a mid now old new) is h
 
 -- what sinks took over two steps
 abbrev pub joined : Sinks → Sinks → Sinks
@@ -66,11 +55,13 @@ module _ {S G E L P : Type 0} (m : Meaning S G E L P) (first : ProfileValue) {T 
     pub stands : AreBothAfter m n recording other given
     pub grew : BothGrew sinks (record_with m first given false) (second_with m first n second given false)
 
+module _ {S G E L P : Type 0} {m : Meaning S G E L P} {first : ProfileValue} {T H F M Q : Type 0} {n : Meaning T H F M Q}
+    {second : ProfileValue} where
   pub running-opened : (shelf : ShelfState) (slot : ℕ) (sinks : Sinks) (reader : StimulusReader) (recording : Recording S G E L P)
       (other : Recording T H F M Q)
       → StandsFor reader [] [] → IsRecordingAfter m recording [] → IsRecordingAfter n other []
       → BothGrew sinks (opening m first) (opening n second)
-      → Running shelf shelf slot sinks reader recording other [] []
+      → Running m first n second shelf shelf slot sinks reader recording other [] []
   running-opened shelf slot sinks reader recording other stands one two grew = record {
     reads = reads-none shelf slot;
     fed = stands;
@@ -88,7 +79,7 @@ module _ {S G E L P : Type 0} (m : Meaning S G E L P) (first : ProfileValue) {T 
   pub next-read : {start mid now : ShelfState} {slot : ℕ} {sinks : Sinks} {reader : StimulusReader} {recording : Recording S G E L P}
       {other : Recording T H F M Q} {read : List ℕ} {given : List CycleInput} (next : StimulusReader)
       (answer : Result (Option CycleInput) (Stopped StimulusFault))
-      → Running start mid slot sinks reader recording other read given
+      → Running m first n second start mid slot sinks reader recording other read given
       → Answered answer mid now reader next → slot_of reader ≡ slot
       → (all : List ℕ) × Reads start now slot all × InputIs answer next (IsAtEnd now slot) all given
   next-read {mid = mid} {now = now} {read = read} {given = given} next answer running h same = (
@@ -97,36 +88,50 @@ module _ {S G E L P : Type 0} (m : Meaning S G E L P) (first : ProfileValue) {T 
     subst (λ s. InputIs answer next (IsAtEnd now s) (read ++ h.0) given) same (h.2 read given running.fed).1,
   )
 
+  module _ {start mid now : ShelfState} {slot : ℕ} {sinks : Sinks} {reader : StimulusReader} {recording : Recording S G E L P}
+      {other : Recording T H F M Q} {read : List ℕ} {given : List CycleInput} {events : ℕ} (answer : Option CycleInput)
+      (next : StimulusReader) (running : Running m first n second start mid slot sinks reader recording other read given)
+      (answered : Answered (Ok answer) mid now reader next) (same : slot_of reader ≡ slot) (named : events_of next ≡ events) where
+    -- an input was read
+    pub next-input : (input : CycleInput) → answer ≡ Some input
+        → (all : List ℕ) × Reads start now slot all × StandsFor next all (given ++ input ∷ []) × IsNext input events all given
+    next-input input is =
+        let told = subst (λ x. Answered (Ok x) mid now reader next) is answered in
+        let got = next-read next (Ok (Some input)) running told same in
+        (got.0, got.1, got.2.0, subst (λ k. IsNext input k got.0 given) named got.2.1)
+
+    -- the end was read
+    pub next-end : answer ≡ None → (all : List ℕ) × Reads start now slot all × IsWhole events (IsAtEnd now slot) all given
+    next-end is =
+        let told = subst (λ x. Answered (Ok x) mid now reader next) is answered in
+        let got = next-read next (Ok None) running told same in
+        (got.0, got.1, subst (λ k. IsWhole k (IsAtEnd now slot) got.0 given) named got.2.1)
+
   -- one cycle more was run by both
   pub running-next : {start mid now : ShelfState} {slot : ℕ} {reader : StimulusReader} {recording : Recording S G E L P}
-      {other : Recording T H F M Q} {read : List ℕ} {given : List CycleInput} (sinks step : Sinks) (next : StimulusReader)
+      {other : Recording T H F M Q} {read all : List ℕ} {given : List CycleInput} (sinks step : Sinks) (next : StimulusReader)
       (ran : Recording S G E L P) (followed : Recording T H F M Q) (input : CycleInput)
-      → Running start mid slot sinks reader recording other read given
-      → Answered (Ok (Some input)) mid now reader next → slot_of reader ≡ slot
+      → Running m first n second start mid slot sinks reader recording other read given
+      → Reads start now slot all → StandsFor next all (given ++ input ∷ [])
       → AreBothAfter m n ran followed (given ++ input ∷ [])
       → Grew sinks.first.after step.first.after (first_frame m n first second given input)
       → Grew sinks.second.after step.second.after (second_frame m n first second given input)
-      → (all : List ℕ) × Running start now slot (joined sinks step) next ran followed all (given ++ input ∷ [])
-  running-next {given = given} sinks step next ran followed input running h same stands one two =
-      let got = next-read next (Ok (Some input)) running h same in (
-        got.0,
-        record {
-          reads = got.1;
-          fed = got.2.0;
-          stands = stands;
-          grew = record {
-            first = subst (Grew sinks.first.before step.first.after) (sym (record-next m first given input))
-                (grew-then running.grew.first one);
-            second = subst (Grew sinks.second.before step.second.after) (sym (second-next m first n second given input))
-                (grew-then running.grew.second two);
-          };
-        },
-      )
+      → Running m first n second start now slot (joined sinks step) next ran followed all (given ++ input ∷ [])
+  running-next {given = given} sinks step next ran followed input running reads fed stands one two = record {
+    reads = reads;
+    fed = fed;
+    stands = stands;
+    grew = record {
+      first = subst (Grew sinks.first.before step.first.after) (sym (record-next m first given input)) (grew-then running.grew.first one);
+      second = subst (Grew sinks.second.before step.second.after) (sym (second-next m first n second given input))
+          (grew-then running.grew.second two);
+    };
+  }
 
   -- fewer than 1,000,000 cycles were run before the next one
   pub few-cycles : {start mid : ShelfState} {slot : ℕ} {sinks : Sinks} {reader : StimulusReader} {recording : Recording S G E L P}
       {other : Recording T H F M Q} {read : List ℕ} {given : List CycleInput} (input : CycleInput)
-      → Running start mid slot sinks reader recording other read given
+      → Running m first n second start mid slot sinks reader recording other read given
       → length (given ++ input ∷ []) ≤ 1000000 → recording.engine.cycles < 1000000
   few-cycles {given = given} input running few =
       let cycles = running.stands.first.engine.cycles in let one = length-append given (input ∷ []) in omega arith

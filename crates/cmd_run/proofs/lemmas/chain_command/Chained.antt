@@ -3,28 +3,26 @@ use Rattle.std.proofs.Common.{◌≡◌, ℕ, List, refl, sym, ap, inl, inr}
 use Rattle.std.specs.Prelude.{◌⊎◌, Some, Result, Ok, Err}
 use Rattle.det_values.specs.Values.{ProfileValue}
 use Rattle.det_io.specs.Count.{Rose}
-use Rattle.det_io.specs.Shelf.{Reads}
 use Rattle.det_io.specs.Traffic.{ShelfRun, SinkRun}
 use Rattle.det_io.specs.declared.failure.Failure.TheVariants.{Read, Write, OutOfMemory}
 use Rattle.det_io.specs.declared.failure.Stopped.{Stopped}
 use Rattle.det_io.specs.declared.failure.Stopped.TheVariants.{Refused, Failed}
-use Rattle.det_io.proofs.Growth.{part-whole, part-none, same-none}
 use Rattle.job.specs.Meaning.{Meaning}
 use Rattle.jobs.specs.Kinds.{by_kind, of_kind}
 use Rattle.jobs.proofs.ByKinds.{by_kind-then, of_kind-gives}
 use Rattle.stimulus.specs.declared.stimulus_item.StimulusFault.{StimulusFault}
 use Rattle.cmd_run.specs.declared.chain.chain_counts.ChainCounts.{ChainCounts}
-use Rattle.cmd_run.specs.chain.SecondClient.{second_of}
 use Rattle.cmd_run.specs.chain.ChainEnds.{Sinks, Answers}
 use Rattle.cli_answers.specs.declared.answer.Answer.{Answer}
 use Rattle.cli_answers.specs.declared.answer.Answer.TheVariants as answers
-use Rattle.cli_answers.specs.Outcome.{Outcome, Meets}
+use Rattle.cli_answers.specs.Outcome.{Meets, HasRisen}
 use Rattle.cli_answers.proofs.AnswerMeets.{meets-read-fault-part, meets-write-fault, meets-no-memory-part}
-use Rattle.cmd_run.specs.record_command.Outcomes.{answer_to}
-use Rattle.cmd_run.proofs.lemmas.record_command.Recorded.{at-told}
-use Rattle.cmd_run.specs.chain_command.Chain.{chained, answer_of}
+use Rattle.run_setup.proofs.Meeting.{meets-known}
+use Rattle.cmd_run.specs.record_command.Outcomes.{answer_to, stimulus_answer}
+use Rattle.cmd_run.proofs.lemmas.record_command.Recorded.{at-told, ReadsOf}
+use Rattle.cmd_run.specs.chain_command.Chain.{chained}
 use Rattle.cmd_run.specs.chain_command.Clients.{Client, chained_by_kinds}
-use Rattle.cmd_run.specs.chain_command.ChainVisit.{HasChained}
+use Rattle.cmd_run.specs.StimulusVisit.{HasChained}
 
 -- of two cases the first is refuted
 the-other : {A B : Type 0} → (A → ⊥) → A ⊎ B → B
@@ -32,11 +30,8 @@ the-other never (inl a) = absurd (never a)
 the-other never (inr b) = b
 
 module _ (text : List ℕ) (slot : ℕ) (shelf : ShelfRun) (one out : SinkRun) (is_known rose : Type 0)
-    (told : is_known → shelf.first.left slot ≡ Some text) (calm : Rose one.faults_before one.faults_after → ⊥)
+    (told : is_known → shelf.first.left slot ≡ Some text) (calm : HasRisen one → ⊥)
     (later : Rose shelf.first.faults shelf.last.faults → rose) where
-  abbrev failed : Type 0
-  failed = Rose out.faults_before out.faults_after
-
   abbrev sinks : Sinks
   sinks = record { first = one; second = out }
 
@@ -50,53 +45,37 @@ module _ (text : List ℕ) (slot : ℕ) (shelf : ShelfRun) (one out : SinkRun) (
 
     -- it meets the outcome, by its end
     met-chained : (result : Result ChainCounts (Stopped StimulusFault)) → HasChained m first n second slot shelf one out result
-        → Meets (chained m first n second text) is_known rose failed out.before out.after (answer_of result)
-    met-chained (Ok counts) has = record {
-      part = λ t. part-whole out.before out.after (second_of m first n second text) (said (Ok counts) has t).grew.second;
-      whole = λ t. inr (inr (inr (
-        ap answer_to (sym (said (Ok counts) has t).good),
-        (said (Ok counts) has t).grew.second,
-      )));
-      read_fault = λ e. cc;
-      write_fault = λ e. cc;
-    }
-    met-chained (Err (Refused fault)) has = record {
-      part = λ t. part-whole out.before out.after (second_of m first n second text) (said (Err (Refused fault)) has t).grew.second;
-      whole = λ t. inr (inr (inr (
-        ap answer_to (sym (said (Err (Refused fault)) has t).bad),
-        (said (Err (Refused fault)) has t).grew.second,
-      )));
-      read_fault = λ e. cc;
-      write_fault = λ e. cc;
-    }
+        → Meets (chained m first n second text) is_known rose out (stimulus_answer result)
+    met-chained (Ok counts) has =
+        meets-known (chained m first n second text) is_known rose out answers.Done (λ e. cc) (λ e. cc)
+        (λ t. (ap answer_to (sym (said (Ok counts) has t).good), (said (Ok counts) has t).grew.second))
+    met-chained (Err (Refused fault)) has =
+        meets-known (chained m first n second text) is_known rose out (answers.BadStimulus fault.line) (λ e. cc) (λ e. cc)
+        (λ t. (ap answer_to (sym (said (Err (Refused fault)) has t).bad), (said (Err (Refused fault)) has t).grew.second))
     met-chained (Err (Failed Read)) has =
-        meets-read-fault-part (chained m first n second text) is_known rose failed out.before out.after
+        meets-read-fault-part (chained m first n second text) is_known rose out
         (λ t. (said (Err (Failed Read)) has t).second) (later (has.shelf_traffic.cause refl))
     met-chained (Err (Failed Write)) has =
-        meets-write-fault (chained m first n second text) is_known rose failed out.before out.after
+        meets-write-fault (chained m first n second text) is_known rose out
         (λ t. (said (Err (Failed Write)) has t).second) (the-other calm (has.write_fault refl))
     met-chained (Err (Failed OutOfMemory)) has =
-        meets-no-memory-part (chained m first n second text) is_known rose failed out.before out.after
+        meets-no-memory-part (chained m first n second text) is_known rose out
         (λ t. (said (Err (Failed OutOfMemory)) has t).second)
 
   module _ (first second : Client) (result : Result ChainCounts (Stopped StimulusFault))
       (visited : of_kind (λ S G E L P m. of_kind (λ T H F M Q n.
       HasChained m first.profile n second.profile slot shelf one out result) second.kind) first.kind) where
     -- with the jobs of two kinds it meets the outcome of those kinds
-    pub met-by-kinds : (answer : Answer) → answer ≡ answer_of result
-        → Meets (chained_by_kinds first second text) is_known rose failed out.before out.after answer
+    pub met-by-kinds : (answer : Answer) → answer ≡ stimulus_answer result
+        → Meets (chained_by_kinds first second text) is_known rose out answer
     met-by-kinds answer is =
         rw is (by_kind-then (λ S G E L P m. by_kind (λ T H F M Q n. chained m first.profile n second.profile text) second.kind)
         (λ S G E L P m. of_kind (λ T H F M Q n. HasChained m first.profile n second.profile slot shelf one out result) second.kind)
-        (λ wanted. Meets wanted is_known rose failed out.before out.after (answer_of result))
+        (λ wanted. Meets wanted is_known rose out (stimulus_answer result))
         (λ S G E L P m. by_kind-then (λ T H F M Q n. chained m first.profile n second.profile text)
         (λ T H F M Q n. HasChained m first.profile n second.profile slot shelf one out result)
-        (λ wanted. Meets wanted is_known rose failed out.before out.after (answer_of result))
+        (λ wanted. Meets wanted is_known rose out (stimulus_answer result))
         (λ T H F M Q n has. met-chained m first.profile n second.profile result has) second.kind) first.kind visited)
-
--- all that it read was of its slot
-abbrev ReadsOf : ShelfRun → ℕ → Type 0
-ReadsOf shelf slot = (read : List ℕ) × Reads shelf.first shelf.last slot read
 
 pub reads-by-kinds : (slot : ℕ) (shelf : ShelfRun) (one out : SinkRun) (first second : Client)
     (result : Result ChainCounts (Stopped StimulusFault))
@@ -109,9 +88,3 @@ reads-by-kinds slot shelf one out first second result visited =
     (ReadsOf shelf slot)
     (λ S G E L P m. of_kind-gives (λ T H F M Q n. HasChained m first.profile n second.profile slot shelf one out result)
     (ReadsOf shelf slot) (λ T H F M Q n has. let run = has.chained.run in (run.0, run.1)) second.kind) first.kind visited
-
--- no memory could be had, and the bytes are as before
-pub met-none : (wanted : Outcome) (is_known rose failed : Type 0) (before after : List ℕ → Type 0) → after ≡ before
-    → Meets wanted is_known rose failed before after answers.OutOfMemory
-met-none wanted is_known rose failed before after same =
-    rw same (meets-no-memory-part wanted is_known rose failed before before (λ t. part-none before before wanted.bytes (same-none before)))

@@ -17,6 +17,7 @@ use Rattle.manifest.specs.Profiles.{profile_of}
 use Rattle.cli_answers.specs.Answers.{without_manifest}
 use Rattle.cli_answers.specs.declared.answer.BadManifest.{BadManifest}
 use Rattle.cli_answers.specs.Outcome.{Meets, KnowsBytes, known_bytes}
+use Rattle.cli_answers.proofs.AnswerMeets.{unwritten}
 use Rattle.run_setup.specs.Setup.{setup_of}
 use Rattle.run_setup.proofs.Ending.{meets-end}
 use Rattle.cmd_run.specs.record_command.Outcomes.{record_names}
@@ -92,11 +93,11 @@ module _ (strict : Bool) (shelf : ShelfState) (first second stimulus : List ℕ)
   bad-first (Failed failure) bad = bad
 
   -- a first manifest that is refused, or couldn't be read
-  pub met-first : (seed : ℕ) (rose failed : Type 0) (before : List ℕ → Type 0) (end : Stopped BadManifest)
+  pub met-first : (seed : ℕ) (rose : Type 0) (before : List ℕ → Type 0) (m n : ℕ) (end : Stopped BadManifest)
       → IfRefused end (λ why. IsSome (shelf.holds first) → setup_of strict (known_bytes shelf first) ≡ Err why)
       → (failure_in {A = ManifestValue} (Err end) ≡ Some Read → rose) → (failure_in {A = ManifestValue} (Err end) ≡ Some Write → ⊥)
       → Meets (chained_from seed (known_bytes shelf stimulus) (setup_of strict (known_bytes shelf first)) other)
-      (KnowsBytes shelf (names (setup_of strict (known_bytes shelf first)))) rose failed before before (without_manifest end)
-  met-first seed rose failed before end bad read write =
+      (KnowsBytes shelf (names (setup_of strict (known_bytes shelf first)))) rose (unwritten before m n) (without_manifest end)
+  met-first seed rose before m n end bad read write =
       meets-end (λ r. chained_from seed (known_bytes shelf stimulus) r other) (λ why. refl) strict (known_bytes shelf first)
-      (KnowsBytes shelf (names (setup_of strict (known_bytes shelf first)))) rose failed before end (bad-first end bad) read write
+      (KnowsBytes shelf (names (setup_of strict (known_bytes shelf first)))) rose before m n end (bad-first end bad) read write

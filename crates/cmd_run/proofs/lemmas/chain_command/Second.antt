@@ -13,6 +13,7 @@ use Rattle.manifest.specs.Profiles.{profile_of}
 use Rattle.cli_answers.specs.Answers.{without_manifest}
 use Rattle.cli_answers.specs.declared.answer.BadManifest.{BadManifest}
 use Rattle.cli_answers.specs.Outcome.{Meets, KnowsBytes, known_bytes}
+use Rattle.cli_answers.proofs.AnswerMeets.{unwritten}
 use Rattle.run_setup.specs.Setup.{setup_of}
 use Rattle.run_setup.proofs.Ending.{meets-end}
 use Rattle.cmd_run.specs.record_command.Outcomes.{record_names}
@@ -33,13 +34,13 @@ module _ (strict : Bool) (first : ShelfState) (name stimulus : List ℕ) (seed :
       ∙ ap (λ h. chained_by_kinds client (record { kind = kind; profile = p }) (unwrap_or (h stimulus) [])) (sym holds)
 
   -- a manifest that is refused, or couldn't be read
-  pub met-end : (rose failed : Type 0) (before : List ℕ → Type 0) (end : Stopped BadManifest)
+  pub met-end : (rose : Type 0) (before : List ℕ → Type 0) (m n : ℕ) (end : Stopped BadManifest)
       → IfRefused end (λ why. IsSome (first.holds name) → setup_of strict (known_bytes first name) ≡ Err why)
       → (failure_in {A = ManifestValue} (Err end) ≡ Some Read → rose) → (failure_in {A = ManifestValue} (Err end) ≡ Some Write → ⊥)
       → Meets (chained_second seed client (known_bytes first stimulus) (setup_of strict (known_bytes first name)))
-      (KnowsBytes first (record_names name stimulus (setup_of strict (known_bytes first name)))) rose failed before before (without_manifest
-      end)
-  met-end rose failed before end bad read write =
+      (KnowsBytes first (record_names name stimulus (setup_of strict (known_bytes first name)))) rose (unwritten before m n)
+      (without_manifest end)
+  met-end rose before m n end bad read write =
       meets-end (chained_second seed client (known_bytes first stimulus)) (λ why. refl) strict (known_bytes first name)
-      (KnowsBytes first (record_names name stimulus (setup_of strict (known_bytes first name)))) rose failed before end
+      (KnowsBytes first (record_names name stimulus (setup_of strict (known_bytes first name)))) rose before m n end
       (bad-told strict first name stimulus end bad) read write

@@ -17,6 +17,7 @@ use Rattle.manifest.specs.Profiles.{profile_of}
 use Rattle.cli_answers.specs.Answers.{without_manifest}
 use Rattle.cli_answers.specs.declared.answer.BadManifest.{BadManifest}
 use Rattle.cli_answers.specs.Outcome.{Outcome, Meets, KnowsBytes, known_bytes}
+use Rattle.cli_answers.proofs.AnswerMeets.{unwritten}
 use Rattle.run_setup.specs.Setup.{setup_of, with_manifest}
 use Rattle.run_setup.proofs.Ending.{meets-end}
 use Rattle.cmd_run.specs.record_command.Outcomes.{demo_profile, demo_outcome, recorded_by_kind}
@@ -101,11 +102,11 @@ module _ (strict : Bool) (first : ShelfState) (name stimulus : List ℕ) where
   bad-told (Failed failure) bad = bad
 
   -- a manifest that is refused, or couldn't be read
-  pub met-end : (seed : Option ℕ) (rose failed : Type 0) (before : List ℕ → Type 0) (end : Stopped BadManifest)
+  pub met-end : (seed : Option ℕ) (rose : Type 0) (before : List ℕ → Type 0) (m n : ℕ) (end : Stopped BadManifest)
       → IfRefused end (λ why. IsSome (first.holds name) → setup_of strict (known_bytes first name) ≡ Err why)
       → (failure_in {A = ManifestValue} (Err end) ≡ Some Read → rose) → (failure_in {A = ManifestValue} (Err end) ≡ Some Write → ⊥)
       → Meets (record_outcome strict (known_bytes first name) (known_bytes first stimulus) seed)
-      (KnowsBytes first (names (setup_of strict (known_bytes first name)))) rose failed before before (without_manifest end)
-  met-end seed rose failed before end bad read write =
+      (KnowsBytes first (names (setup_of strict (known_bytes first name)))) rose (unwritten before m n) (without_manifest end)
+  met-end seed rose before m n end bad read write =
       meets-end (recorded_by (unwrap_or seed 0) (known_bytes first stimulus)) (λ why. refl) strict (known_bytes first name)
-      (KnowsBytes first (names (setup_of strict (known_bytes first name)))) rose failed before end (bad-told end bad) read write
+      (KnowsBytes first (names (setup_of strict (known_bytes first name)))) rose before m n end (bad-told end bad) read write

@@ -5,7 +5,6 @@ use Rattle.sha2.specs.Sha256.{sha256}
 use Rattle.det_io.specs.Count.{Rose}
 use Rattle.det_values.specs.Values.{ProfileValue}
 use Rattle.det_values.specs.declared.job_kind.JobKind.{JobKind}
-use Rattle.det_io.proofs.Counts.{rose-none}
 use Rattle.job.specs.Meaning.{Meaning}
 use Rattle.stimulus.specs.Reading.{Terminated, ending}
 use Rattle.det_io.specs.Traffic.{ShelfRun, SinkRun, failure_in}
@@ -17,10 +16,10 @@ use Rattle.recorder.specs.declared.run_writer.counts.Counts.{Counts}
 use Rattle.probes.specs.Reports.{AudienceState, reported}
 use Rattle.recorder.specs.Record.{record_of}
 use Rattle.recorder.specs.RunEnds.{Finishes, Stops}
-use Rattle.recorder.specs.RecordRun.{IsRecorded}
 use Rattle.record_text.specs.declared.summary_lines.Summary.{Summary}
 use Rattle.jobs.specs.Kinds.{by_kind, of_kind}
 use Rattle.jobs.proofs.ByKinds.{by_kind-then, of_kind-gives}
+use Rattle.cmd_run.specs.StimulusVisit.{HasRecorded}
 use Rattle.cmd_run.specs.sim_command.Sim.{runs_over, summary_over}
 
 told-at : (left : Option (List ℕ)) (text : List ℕ) (P : List ℕ → Type 0) → left ≡ Some text → IfSome left P → P text
@@ -48,19 +47,19 @@ module _ {S G E L P : Type 0} (m : Meaning S G E L P) (profile : ProfileValue) (
   record CannotStop : Type 0 where
     whole : ending (length profile.events) text ≡ Terminated
     stops : (fault : StimulusFault) → run ≡ Err (Refused fault) → Stops m profile text fault.line before after
-    read : failure_in run ≡ Some Read → Rose 0 0
-    write : failure_in run ≡ Some Write → Rose 0 0
+    read : failure_in run ≡ Some Read → ⊥
+    write : failure_in run ≡ Some Write → ⊥
 
   ends : (why : Stopped StimulusFault) → run ≡ Err why → CannotStop → why ≡ Failed OutOfMemory
   ends (Refused fault) is h = absurd (let bad = (h.stops fault is).bad in let whole = h.whole in cc)
-  ends (Failed Read) is h = absurd (rose-none 0 (h.read (ap failure_in is)))
-  ends (Failed Write) is h = absurd (rose-none 0 (h.write (ap failure_in is)))
+  ends (Failed Read) is h = absurd (h.read (ap failure_in is))
+  ends (Failed Write) is h = absurd (h.write (ap failure_in is))
   ends (Failed OutOfMemory) is h = refl
 
   -- a run over a whole text, from a shelf and into a sink that count no fault, ends early only if memory runs out
   only-memory : left ≡ Some text → ending (length profile.events) text ≡ Terminated
       → IfSome left (λ t. (fault : StimulusFault) → run ≡ Err (Refused fault) → Stops m profile t fault.line before after)
-      → (failure_in run ≡ Some Read → Rose 0 0) → (failure_in run ≡ Some Write → Rose 0 0) → IfErr run (λ why. why ≡ Failed OutOfMemory)
+      → (failure_in run ≡ Some Read → ⊥) → (failure_in run ≡ Some Write → ⊥) → IfErr run (λ why. why ≡ Failed OutOfMemory)
   only-memory told whole stops read write = at_err run refl where
     at_err : (r : Result Counts (Stopped StimulusFault)) → run ≡ r → IfErr r (λ why. why ≡ Failed OutOfMemory)
     at_err (Ok counts) is = tt
@@ -98,13 +97,15 @@ module _ {S G E L P : Type 0} (m : Meaning S G E L P) (profile : ProfileValue) (
 
 module _ (kind : JobKind) (profile : ProfileValue) (text : List ℕ) (shelf : ShelfRun) (sink : SinkRun) (old last : AudienceState)
     (run : Result Counts (Stopped StimulusFault))
-    (recorded : of_kind (λ S G E L P m. IsRecorded m profile 0 shelf sink old last run) kind)
+    (recorded : of_kind (λ S G E L P m. HasRecorded m profile 0 shelf sink old last run) kind)
     (told : shelf.first.left 0 ≡ Some text) where
   pub only-memory-by : ending (length profile.events) text ≡ Terminated
-      → (failure_in run ≡ Some Read → Rose 0 0) → (failure_in run ≡ Some Write → Rose 0 0) → IfErr run (λ why. why ≡ Failed OutOfMemory)
-  only-memory-by whole read write =
-      of_kind-gives (λ S G E L P m. IsRecorded m profile 0 shelf sink old last run) (IfErr run (λ why. why ≡ Failed OutOfMemory))
-      (λ S G E L P m r. only-memory m profile text (shelf.first.left 0) sink.before sink.after run told whole r.stimulus read write)
+      → (Rose shelf.first.faults shelf.last.faults → ⊥) → (Rose sink.faults_before sink.faults_after → ⊥)
+      → IfErr run (λ why. why ≡ Failed OutOfMemory)
+  only-memory-by whole calm_shelf calm_sink =
+      of_kind-gives (λ S G E L P m. HasRecorded m profile 0 shelf sink old last run) (IfErr run (λ why. why ≡ Failed OutOfMemory))
+      (λ S G E L P m r. only-memory m profile text (shelf.first.left 0) sink.before sink.after run told whole r.recorded.stimulus
+      (λ e. calm_shelf (r.shelf_traffic.cause e)) (λ e. calm_sink (r.sink_traffic.cause e)))
       kind recorded
 
   pub summed-by : (number : ℕ) (counts : Counts) (digest : List ℕ) → run ≡ Ok counts
@@ -115,14 +116,14 @@ module _ (kind : JobKind) (profile : ProfileValue) (text : List ℕ) (shelf : Sh
       let told_of : Summary =
       record { number = number; cycles = counts.cycles; refused = counts.refused; bytes = counts.bytes; digest = digest } in
       by_kind-then (λ S G E L P m. summary_over m profile text number)
-      (λ S G E L P m. IsRecorded m profile 0 shelf sink old last run) (λ summary. told_of ≡ summary)
-      (λ S G E L P m r. summed m profile text (shelf.first.left 0) sink.before sink.after run number counts digest told is r.ok none
-      digests)
+      (λ S G E L P m. HasRecorded m profile 0 shelf sink old last run) (λ summary. told_of ≡ summary)
+      (λ S G E L P m r. summed m profile text (shelf.first.left 0) sink.before sink.after run number counts digest told is
+      r.recorded.ok none digests)
       kind recorded
 
   pub all-reported-by : (counts : Counts) → run ≡ Ok counts
       → reported last [] ≡ reported old (by_kind (λ S G E L P m. runs_over m profile text) kind)
   all-reported-by counts is =
       by_kind-then (λ S G E L P m. runs_over m profile text)
-      (λ S G E L P m. IsRecorded m profile 0 shelf sink old last run) (λ runs. reported last [] ≡ reported old runs)
-      (λ S G E L P m r. all-reported m profile text (shelf.first.left 0) run counts old last told is r.reports) kind recorded
+      (λ S G E L P m. HasRecorded m profile 0 shelf sink old last run) (λ runs. reported last [] ≡ reported old runs)
+      (λ S G E L P m r. all-reported m profile text (shelf.first.left 0) run counts old last told is r.recorded.reports) kind recorded

@@ -2,6 +2,7 @@
 use Rattle.std.proofs.Common.{◌≡◌, ℕ, List, [], ◌++◌, length, refl, sym, ap, ◌∙◌, subst, append-nil}
 use Rattle.std.specs.Prelude.{None, Result, Ok, Err, IfOk, OnOk}
 use Rattle.det_io.specs.Sink.{Grew, GrewByPrefix}
+use Rattle.det_io.specs.Traffic.{SinkRun}
 use Rattle.det_values.specs.Values.{ProfileValue}
 use Rattle.jobs.specs.cloud.Meaning.{meaning}
 use Rattle.stimulus.specs.GeneratedText.{made}
@@ -10,7 +11,7 @@ use Rattle.probes.specs.Reports.{ProbeLife, AudienceState, reported, reports, in
 use Rattle.record_text.specs.Summaries.{summary_lines}
 use Rattle.record_text.specs.declared.summary_lines.Summary.{Summary}
 use Rattle.cli_answers.specs.declared.answer.Answer.TheVariants.{Done, WriteFault}
-use Rattle.cli_answers.specs.Outcome.{Meets, text_outcome}
+use Rattle.cli_answers.specs.Outcome.{Meets, HasRisen, text_outcome}
 use Rattle.cli_answers.proofs.AnswerMeets.{meets-whole, meets-write-fault}
 use Rattle.cmd_run.specs.sim_command.Sim.{sim_profile, runs_over, summary_over, sim_runs, summary_of, sim_text, sim_outcome}
 use Rattle.cmd_run.proofs.lemmas.sim_command.Whole.{made-is-good}
@@ -55,16 +56,15 @@ saw-all (Ok value) number p is text same first mid last saw left none =
     all-told last none ∙ left ∙ saw ∙ (λ i. reported first (runs_over meaning (is i) (same i)))
 saw-all (Err e) number p is text same first mid last saw left none = tt
 
-module _ (audience : AudienceState) (number : ℕ) (rose : Type 0) (before after : List ℕ → Type 0) (text : List ℕ)
-    (is : text ≡ sim_text audience number) where
+module _ (audience : AudienceState) (number : ℕ) (out : SinkRun) (text : List ℕ) (is : text ≡ sim_text audience number) where
   -- the text was written
-  pub meets-done : Grew before after text → Meets (sim_outcome audience number) (Unit {0}) ⊥ rose before after Done
+  pub meets-done : Grew out.before out.after text → Meets (sim_outcome audience number) (Unit {0}) ⊥ out Done
   unfolding sim_outcome
-  meets-done grew = meets-whole (sim_outcome audience number) (Unit {0}) ⊥ rose before after Done text (λ e. cc) (λ e. cc)
+  meets-done grew = meets-whole (sim_outcome audience number) (Unit {0}) ⊥ out Done text (λ e. cc) (λ e. cc)
       (λ t. ap text_outcome (sym is)) grew
 
   -- its writing failed
-  pub meets-failed : GrewByPrefix before after text → rose → Meets (sim_outcome audience number) (Unit {0}) ⊥ rose before after WriteFault
+  pub meets-failed : GrewByPrefix out.before out.after text → HasRisen out → Meets (sim_outcome audience number) (Unit {0}) ⊥ out WriteFault
   unfolding sim_outcome
-  meets-failed part failed = meets-write-fault (sim_outcome audience number) (Unit {0}) ⊥ rose before after
-      (λ t. subst (λ bytes. GrewByPrefix before after bytes) is part) failed
+  meets-failed part failed = meets-write-fault (sim_outcome audience number) (Unit {0}) ⊥ out
+      (λ t. subst (λ bytes. GrewByPrefix out.before out.after bytes) is part) failed

@@ -2,8 +2,8 @@ use Rattle.std.proofs.Common.{drop, refl}
 use Rattle.copies.proofs.Shown.{is_init, is_run, long_enough, undrawn_apart}
 use Rattle.copies.proofs.item_differences.frame_difference.Goals as goal
 
-pub init_elements_in-left-requires : goal.init_elements_in-left-requires
-init_elements_in-left-requires c =
+pub view_init_elements-left-requires : goal.view_init_elements-left-requires
+view_init_elements-left-requires c =
     let h = is_init c.args.left c.in-Init.elements c.args.left_bytes.now c.requires.0 c.in-Init.is c.requires.2 in (
       h.elements,
       drop c.args.left.len c.args.left_bytes.now,
@@ -11,8 +11,8 @@ init_elements_in-left-requires c =
       long_enough c.args.left c.args.left_bytes.now c.requires.0 h.order c.requires.2,
     )
 
-pub init_elements_in-right-requires : goal.init_elements_in-right-requires
-init_elements_in-right-requires c =
+pub view_init_elements-right-requires : goal.view_init_elements-right-requires
+view_init_elements-right-requires c =
     let h = is_init c.args.right c.in-Init-kind.others c.args.right_bytes.now c.requires.1 c.in-Init-kind.is c.requires.3 in (
       h.elements,
       drop c.args.right.len c.args.right_bytes.now,
@@ -29,8 +29,8 @@ returns-in-Init-kind c a b one other =
       y.is,
       c.at_element.ensures,
       c.elements_apart.ensures,
-      c.init_elements_in-left.ensures.is x.elements _ x.reads,
-      c.init_elements_in-right.ensures.is y.elements _ y.reads,
+      c.view_init_elements-left.ensures.is x.elements _ x.reads,
+      c.view_init_elements-right.ensures.is y.elements _ y.reads,
       undrawn_apart,
       c.saturating_sub-cycle.ensures,
     ) refl

@@ -35,8 +35,8 @@ returns g c =
       long = search rules;
       statuses = c.finish_all-statuses.ensures.statuses;
     }) (subst (Compared r (shelf_state mid) (shelf_state late)) same c.compare-compared.ensures.compared)
-    c.compare-compared.ensures.writes_nothing traffic.cause c.finish_all-statuses.ensures.none (record {
+    c.compare-compared.ensures.writes_nothing traffic.cause c.finish_all-statuses.ensures.lost (record {
       started = c.start_all-started.ensures.counted;
       compared = traffic.counted;
-      finished = c.finish_all-statuses.ensures.counted;
+      finished = c.finish_all-statuses.ensures.faults;
     }) (asks-prefix-kept c.start_all-started.ensures.asks (search rules)) children c.finish_all-statuses.ensures.finished)

@@ -14,9 +14,9 @@ more-runs [] = refl
 more-runs (f ∷ finished) = more-runs finished
 
 -- one more child, which runs
-pub opaque_state-starts : (finished : List Bool) (faults : ℕ) (words : Words)
-    → Starts (opaque_state finished faults) (opaque_state (finished ++ false ∷ []) faults) words (length finished)
-opaque_state-starts finished faults words = record {
+pub opaque_state-starts : (finished lost : List Bool) (faults : ℕ) (words : Words)
+    → Starts (opaque_state finished lost faults) (opaque_state (finished ++ false ∷ []) (lost ++ false ∷ []) faults) words (length finished)
+opaque_state-starts finished lost faults words = record {
   number = refl;
   children = length-append finished (false ∷ []);
   running = more-runs finished;

@@ -84,9 +84,10 @@ pub found-starts : (scripts : List Script) (children : List RunningChild) (told 
     (words : Words)
     → index_of scripts words ≡ Some i
     → Starts (state_of scripts children told asked faults)
-    (state_of scripts (children ++ record { script = i; at = 0; is_finished = false } ∷ []) told later after) words (length children)
+    (state_of scripts (children ++ record { script = i; at = 0; is_finished = false; is_lost = false } ∷ []) told later after) words
+    (length children)
 found-starts scripts children told asked later faults after i words e =
-    let child : RunningChild = record { script = i; at = 0; is_finished = false } in
+    let child : RunningChild = record { script = i; at = 0; is_finished = false; is_lost = false } in
     let script_words = λ (c : RunningChild). words_at scripts c.script in
     record {
       number = refl;
@@ -113,7 +114,7 @@ rest-next bytes at n false = sym (drop-drop n at bytes)
 
 -- a child after n more bytes of it were read
 abbrev pub gone_on : RunningChild → ℕ → RunningChild
-gone_on child n = record { script = child.script; at = child.at + n; is_finished = child.is_finished }
+gone_on child n = record child { at = child.at + n }
 
 -- it gives these bytes
 pub child-reads : (scripts : List Script) (children : List RunningChild) (told : Bool) (asked : List ℕ) (faults i n : ℕ) (child :
@@ -178,23 +179,31 @@ child-done scripts children i n room child h e c f =
     omega (arith, c, count)
 
 -- a child that is given to finish
-pub child-finishes : (scripts : List Script) (children : List RunningChild) (told : Bool) (asked : List ℕ) (faults after i at : ℕ)
+pub child-finishes : (scripts : List Script) (children : List RunningChild) (told : Bool) (asked : List ℕ) (faults i at : ℕ) (lost : Bool)
     (child : RunningChild)
     → i < length children → child ≡ get_or children i child
     → Finishes (state_of scripts children told asked faults)
-    (state_of scripts (set children i (record { script = child.script; at = at; is_finished = true })) told asked after) i
-child-finishes scripts children told asked faults after i at child h e =
-    let next : RunningChild = record { script = child.script; at = at; is_finished = true } in
+    (state_of scripts (set children i (record { script = child.script; at = at; is_finished = true; is_lost = lost })) told asked faults) i
+child-finishes scripts children told asked faults i at lost child h e =
+    let next : RunningChild = record { script = child.script; at = at; is_finished = true; is_lost = lost } in
     let is_done = λ (c : RunningChild). c.is_finished in
     record {
       children = length-set children i next;
+      faults = refl;
       words = ap slice_get (put-same (λ (c : RunningChild). words_at scripts c.script) children i child next e refl);
       asked = refl;
       finished = ap (λ o. unwrap_or o false) (put-at is_done children i child next h e);
       other_finished = λ k ne. ap (λ o. unwrap_or o false) (put-beside is_done children i k next ne);
+      other_lost = λ k ne. ap (λ o. unwrap_or o false) (put-beside (λ (c : RunningChild). c.is_lost) children i k next ne);
       none_left = rw (put-at (rest_of scripts) children i child next h e) refl;
       other_left = λ k ne. put-beside (rest_of scripts) children i k next ne;
     }
+
+-- whether that failed
+pub child-lost : (children : List RunningChild) (i : ℕ) (child next : RunningChild)
+    → i < length children → child ≡ get_or children i child
+    → unwrap_or (slice_get (map (λ (c : RunningChild). c.is_lost) (set children i next)) i) false ≡ next.is_lost
+child-lost children i child next h e = ap (λ o. unwrap_or o false) (put-at (λ (c : RunningChild). c.is_lost) children i child next h e)
 
 -- the status of a child's script is that of its words
 pub child-ends : (scripts : List Script) (children : List RunningChild) (i : ℕ) (child : RunningChild) (words : Words)

@@ -1,6 +1,5 @@
 use Rattle.std.proofs.Common.{◌≡◌, ◌<◌, ◌≤◌, ℕ, length, true, false, slice_index_or}
 use Rattle.std.specs.Prelude.{None, IfSome}
-use Rattle.det_io.specs.Count.{Rose}
 use Rattle.lane.specs.child_processes.Spawners.{Fixed, StatusIs}
 use Rattle.lane.proofs.started_children.finish_all.Given as goal
 
@@ -15,7 +14,6 @@ invariant-loop-child g l = record {
   ahead : (j : ℕ) → l.child ≤ j → j < l.count → (g.P.Spawner.sees l.spawner).finished j ≡ false;
   left : (j : ℕ) → l.child ≤ j → (g.P.Spawner.sees l.spawner).left j ≡ (g.P.Spawner.sees l.fn.spawner).left j;
   statuses : (j : ℕ) → j < l.child → IfSome (slice_index_or l.statuses j None) (StatusIs (g.P.Spawner.sees l.fn.spawner) j);
-  none : (j : ℕ) → j < l.child → slice_index_or l.statuses j None ≡ None
-      → Rose (g.P.Spawner.sees l.fn.spawner).faults (g.P.Spawner.sees l.spawner).faults;
-  counted : (g.P.Spawner.sees l.fn.spawner).faults ≤ (g.P.Spawner.sees l.spawner).faults;
+  lost : (j : ℕ) → j < l.child → slice_index_or l.statuses j None ≡ None → (g.P.Spawner.sees l.spawner).lost j ≡ true;
+  faults : (g.P.Spawner.sees l.spawner).faults ≡ (g.P.Spawner.sees l.fn.spawner).faults;
 }

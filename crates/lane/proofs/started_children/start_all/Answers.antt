@@ -19,7 +19,7 @@ loop-child-init g c =
 pub returns-in-Err-clause-asks : goal.returns-in-Err-clause-asks
 returns-in-Err-clause-asks g c =
     asks-stop (lane_value c.args.lane.now) c.loop-child.child c.args.lane.now.copies c.loop-child-test.true c.loop-child.invariant.asks
-    c.start.ensures.asks
+    c.start_child.ensures.asks
 
 pub loop-child-preserved : goal.loop-child-preserved
 loop-child-preserved g c =

@@ -29,7 +29,7 @@ pub(super) fn status_at(scripts: &[Script], index: usize) -> u8
 }
 
 // What a child has left, which is nothing after the end of its output.
-fn rest_at(scripts: &[Script], child: RunningChild) -> &[u8]
+fn script_rest(scripts: &[Script], child: RunningChild) -> &[u8]
     ensures rest { result.now ≡ rest_of scripts.now child }
     ensures fits { child.at + length result.now < 2 ^ 64 }
 {
@@ -42,12 +42,12 @@ fn rest_at(scripts: &[Script], child: RunningChild) -> &[u8]
 }
 
 // Copies as much of what a child has left as fits, and returns how many bytes.
-pub(super) fn copy_rest(scripts: &[Script], child: RunningChild, buf: &mut [u8]) -> usize
+pub(super) fn copy_script_rest(scripts: &[Script], child: RunningChild, buf: &mut [u8]) -> usize
     ensures count { result ≡ min (length buf.old) (length (rest_of scripts.now child)) }
     ensures fits { child.at + result < 2 ^ 64 }
     ensures front { take result buf.new ≡ take result (rest_of scripts.now child) }
 {
-    let rest = rest_at(scripts, child);
+    let rest = script_rest(scripts, child);
     let n = buf.len().min(rest.len());
     buf[..n].copy_from_slice(&rest[..n]);
     n

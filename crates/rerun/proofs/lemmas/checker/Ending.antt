@@ -1,6 +1,6 @@
 -- How a check ends.
 use Rattle.std.proofs.Common.{◌≡◌, ◌⊎◌, inl, inr, ℕ, List, [], ◌∷◌, ◌++◌, length, Option, Some, None, Result, Ok, Err, sym, ap, subst, ◌∙◌}
-use Rattle.std.proofs.Common.{append_assoc, append-nil}
+use Rattle.std.proofs.Common.{append_assoc}
 use Rattle.std.specs.List.{flat_map}
 use Rattle.det_values.specs.Values.{ProfileValue}
 use Rattle.det_values.specs.declared.frames.CycleInput.{CycleInput}
@@ -38,13 +38,10 @@ use Rattle.rerun.specs.checker.RerunFrames.{rerun_frame}
 use Rattle.rerun.specs.checker.Needed.{IsNeeded}
 use Rattle.rerun.specs.checker.CheckVerdict.{verdict_by, check_verdict}
 use Rattle.rerun.specs.checker.CheckRun.{Answers, ReadsTo, IsChecked}
+use Rattle.rerun.proofs.Reading.{at_record, by-slot}
 use Rattle.rerun.proofs.lemmas.checker.Departing.{inputs_of, departs, departs-one}
 use Rattle.rerun.proofs.lemmas.checker.Records.{runs_of, inputs-are, frames-are, frames-behind, agree-all, agree-first, departs-at}
 use Rattle.rerun.proofs.lemmas.checker.Running.{items_with, Comparing, Next}
-
--- a fact about what was read is one about the whole record where nothing follows
-at_record : (P : List ℕ → Type 0) (bytes rest : List ℕ) → rest ≡ [] → P bytes → P (bytes ++ rest)
-at_record P bytes rest none p = subst P (sym (ap (λ l. bytes ++ l) none ∙ append-nil bytes)) p
 
 -- these are all items of a record
 frames-all : (profile : ProfileValue) (front : List Frame) (bytes : List ℕ) → items_in bytes ≡ items_with profile front
@@ -68,11 +65,8 @@ module _ {S G E L P : Type 0} (m : Meaning S G E L P) (profile : ProfileValue) w
         → ((rest : List ℕ) → (IsAtEnd shelf.last slot → rest ≡ []) → Answers m profile start now result ((read ++ more) ++ rest))
         → IsChecked m profile start now read slot shelf result
     ended {result} {read} {more} {shelf} {slot} reads needed to each =
-        let all : OfSlot shelf slot more (λ bytes. Answers m profile start now result (read ++ bytes)) = record {
-          reads = reads;
-          each = λ rest end. subst (λ (bytes : List ℕ). Answers m profile start now result bytes) (append_assoc read more rest)
-              (each rest end);
-        } in
+        let all : OfSlot shelf slot more (λ bytes. Answers m profile start now result (read ++ bytes)) =
+        by-slot read (λ bytes. Answers m profile start now result bytes) reads each in
         record {
           told = told (λ rest. Answers m profile start now result (read ++ rest)) all;
           run = (more, record { reads_to = to; needed = needed; answers = all });
@@ -124,11 +118,11 @@ module _ {S G E L P : Type 0} (m : Meaning S G E L P) (profile : ProfileValue) w
         let found = (n.is read stands).0 in
         ended n.reads (n.needed read stands) (by found.found) (λ rest end.
         faulty front fault (bytes ++ rest) (behind found rest end).0 (behind found rest end).1
-        comparing.agree comparing.shown)
+        comparing.so_far.agree comparing.shown)
       where
         by : IsFaulty fault (read ++ n.all) (items_with profile front) ⊎ IsAtEnd shelf.last slot
             → ((rest : List ℕ) → check_verdict m profile ((read ++ n.all) ++ rest) ≡ Err fault) ⊎ IsAtEnd shelf.last slot
-        by (inl stays) = inl (λ rest. (faulty front fault ((read ++ n.all) ++ rest) (stays rest).0 (stays rest).1 comparing.agree
+        by (inl stays) = inl (λ rest. (faulty front fault ((read ++ n.all) ++ rest) (stays rest).0 (stays rest).1 comparing.so_far.agree
             comparing.shown).0)
         by (inr at) = inr at
 
@@ -143,13 +137,13 @@ module _ {S G E L P : Type 0} (m : Meaning S G E L P) (profile : ProfileValue) w
     reading-stopped (Failed Read) n =
         let bytes = read ++ n.all in
         let is = n.is read stands in
-        let all = agree-all m profile bytes front (frames-all profile front bytes is.1) comparing.agree in
+        let all = agree-all m profile bytes front (frames-all profile front bytes is.1) comparing.so_far.agree in
         ended n.reads (n.needed read stands) (is.2, all.0) (λ rest end.
         let others = more_items next bytes (items_with profile front) is.0 rest in
         record {
           seen = runs_of front;
           first = agree-first m profile (bytes ++ rest) front (flat_map frame_in others.0)
-              (frames-behind profile front others.0 (items_in (bytes ++ rest)) others.1) comparing.agree;
+              (frames-behind profile front others.0 (items_in (bytes ++ rest)) others.1) comparing.so_far.agree;
           saw = all-reports comparing.shown;
         })
     reading-stopped (Failed Write) n = absurd (n.is read stands)
@@ -163,7 +157,7 @@ module _ {S G E L P : Type 0} (m : Meaning S G E L P) (profile : ProfileValue) w
         ended n.reads (n.needed read stands) is.1 (λ rest end.
         at_record (λ bytes. Answers m profile start seen (Ok (Genuine checker.cycles)) bytes)
         (read ++ n.all) rest (end is.1)
-        (whole front checker.cycles (read ++ n.all) is.2 is.3 comparing.agree comparing.cycles comparing.shown))
+        (whole front checker.cycles (read ++ n.all) is.2 is.3 comparing.so_far.agree comparing.cycles comparing.shown))
 
     -- a frame differs
     pub one-differs : {shown : AudienceState} (frame : Frame) (at : Difference)
@@ -174,12 +168,12 @@ module _ {S G E L P : Type 0} (m : Meaning S G E L P) (profile : ProfileValue) w
         let is = n.is read stands in
         let item : Item = items.Frame frame in
         let here = departed front (flat_map frame_in is.1) frame at (read ++ n.all)
-        (frames-behind profile front (item ∷ is.1) (items_in (read ++ n.all)) is.2) comparing.agree differs_at in
+        (frames-behind profile front (item ∷ is.1) (items_in (read ++ n.all)) is.2) comparing.so_far.agree differs_at in
         ended n.reads (n.needed read stands) here.0 (λ rest end.
         let others = more_items next (read ++ n.all) (items_with profile front ++ item ∷ []) is.0 rest in
         let there = departed front (flat_map frame_in others.0) frame at ((read ++ n.all) ++ rest)
         (frames-behind profile front (item ∷ others.0) (items_in ((read ++ n.all) ++ rest))
-        (others.1 ∙ append_assoc (items_with profile front) (item ∷ []) others.0)) comparing.agree differs_at in (
+        (others.1 ∙ append_assoc (items_with profile front) (item ∷ []) others.0)) comparing.so_far.agree differs_at in (
           ap (λ (o : Option Difference). verdict_by o (fault_in ((read ++ n.all) ++ rest)) (length (inputs ((read ++ n.all) ++ rest))))
               there.0,
           saw (runs_of front ++ run_of frame) ((read ++ n.all) ++ rest) there.1 (shows-then comparing.shown shows),

@@ -17,8 +17,8 @@ use Rattle.record_grammar.specs.Read.{Got}
 use Rattle.record_grammar.proofs.Steady.{got, got_is}
 use Rattle.record_view.specs.declared.view.FrameView.{FrameView}
 use Rattle.record_view.specs.Shows.{IsFrameSpelling, item_view, events_of}
+use Rattle.record_view.proofs.EqualItems.{span_is_spelling}
 use Rattle.record_view.proofs.Spelled.{spelling_read}
-use Rattle.record_codec.proofs.Made.{may_stand}
 use Rattle.rerun.specs.checker.RerunFrames.{AreAlike, rerun_frame}
 
 same-frame : (x y : Frame) → items.Frame x ≡ items.Frame y → x ≡ y
@@ -49,7 +49,7 @@ pub same-spelling : (view : FrameView) (read given : Frame) (bytes : List ℕ) �
     → IsFrameSpelling view read bytes → AreAlike read given → IsFrame (format_of view.place) (events_of view.place) given
     → spelled_frame (format_of view.place) given ≡ bytes → given ≡ read
 same-spelling view read given bytes few are h alike fields same =
-    let m = may_stand (item_view view) (items.Frame read) bytes few are h in
+    let m = (span_is_spelling view.place (item_view view).span bytes (items.Frame read) few are h.shows).0 in
     let spelling : List ℕ = spelled_frame (format_of view.place) given in
     let replay_record : item_at view.place (spelling ++ []) ≡ Got (items.Frame given, []) =
     spelling_read view.place (items.Frame given) [] few (stands-too view.place read given m alike fields) in

@@ -1,5 +1,5 @@
 -- How a record that is run again ends.
-use Rattle.std.proofs.Common.{◌≡◌, inl, inr, ℕ, List, [], ◌∷◌, ◌++◌, refl, sym, ap, subst, ◌∙◌, append_assoc, append-nil}
+use Rattle.std.proofs.Common.{◌≡◌, inl, inr, ℕ, List, [], ◌∷◌, ◌++◌, refl, sym, ap, subst, ◌∙◌}
 use Rattle.std.specs.Prelude.{true, false, Option, Some, None, Result, Ok, Err}
 use Rattle.std.specs.Option.{is_none}
 use Rattle.std.specs.List.{flat_map}
@@ -33,12 +33,9 @@ use Rattle.recorder.specs.run_writer.Recording.{Cuts}
 use Rattle.recorder.proofs.lemmas.run_writer.Growing.{record-opened, record-next, record-ended, record-front}
 use Rattle.rerun.specs.replayer.ReplayRecord.{input_in, inputs, is_whole, replay_record}
 use Rattle.rerun.specs.replayer.ReplayEnds.{Finishes, Stops, Answers, ReadsTo, Ended}
+use Rattle.rerun.proofs.Reading.{at_record, by-slot}
 use Rattle.rerun.proofs.lemmas.replayer.Giving.{inputs-first}
 use Rattle.rerun.proofs.lemmas.replayer.Running.{IsNeeded, Running, Next, next_run}
-
--- a fact about what was read is one about the whole record where nothing follows
-at_record : (P : List ℕ → Type 0) (bytes rest : List ℕ) → rest ≡ [] → P bytes → P (bytes ++ rest)
-at_record P bytes rest none p = subst P (sym (ap (λ l. bytes ++ l) none ∙ append-nil bytes)) p
 
 module _ {S G E L P : Type 0} (m : Meaning S G E L P) (profile : ProfileValue) where
   ended : {result : Result Counts (Stopped RecordFault)} {read more : List ℕ} {shelf : ShelfRun} {slot : ℕ} {out : SinkRun}
@@ -46,14 +43,8 @@ module _ {S G E L P : Type 0} (m : Meaning S G E L P) (profile : ProfileValue) w
       → ReadsTo m profile result (read ++ more) (IsAtEnd shelf.last slot) out
       → ((rest : List ℕ) → (IsAtEnd shelf.last slot → rest ≡ []) → Answers m profile result ((read ++ more) ++ rest) out)
       → Ended m profile result read more shelf slot out
-  ended {result} {read} {more} {out = out} reads needed to each = record {
-    reads_to = to;
-    needed = needed;
-    answers = record {
-      reads = reads;
-      each = λ rest end. subst (λ (bytes : List ℕ). Answers m profile result bytes out) (append_assoc read more rest) (each rest end);
-    };
-  }
+  ended {result} {read} {out = out} reads needed to each =
+      record { reads_to = to; needed = needed; answers = by-slot read (λ bytes. Answers m profile result bytes out) reads each }
 
   -- ---- the record that is written
 

@@ -14,7 +14,6 @@ use Rattle.det_io.specs.declared.failure.Failure.{Failure}
 use Rattle.det_io.specs.declared.failure.Failure.TheVariants.{Read, Write, OutOfMemory}
 use Rattle.det_io.specs.declared.failure.Stopped.{Stopped}
 use Rattle.det_io.specs.declared.failure.Stopped.TheVariants.{Refused, Failed}
-use Rattle.det_io.proofs.Counts.{rose-before}
 use Rattle.det_io.proofs.Growth.{grew-then}
 use Rattle.det_io.proofs.SlotReads.{reads-none, reads-then}
 use Rattle.job.specs.Meaning.{Meaning}
@@ -82,62 +81,58 @@ module _ {S G E L P : Type 0} (m : Meaning S G E L P) (profile : ProfileValue) w
     pub is : (read : List ℕ) → StandsFor old read (items.Header profile ∷ [])
         → InputIs answer profile next (IsAtEnd now slot) (read ++ all) given
 
-  module _ {first mid now : ShelfState} {slot : ℕ} {before took : List ℕ → Type 0} {old reader : FrameReader}
-      {recording : Recording S G E L P} {more : List ℕ} {given : List CycleInput}
-      (running : Running first mid slot before took old reader recording more given) where
-    pub next-read : (next : FrameReader) (answer : Result (Option CycleInput) (Stopped RecordFault))
-        → Answered answer mid now reader next → slot_of reader ≡ slot → Next first now slot old next given answer
-    next-read next answer h same = record {
-      all = more ++ h.0;
-      reads = reads-then running.reads (subst (λ s. Reads mid now s h.0) same h.1);
-      needed = λ read stands. while-then (λ first. fault_so_far (read ++ first) ≡ None) more h.0 (running.needed read stands)
-          (while-weaker (λ first. HasAll ((read ++ more) ++ first) given) (λ first. fault_so_far (read ++ (more ++ first)) ≡ None) h.0
-          (λ first all. subst (λ (bytes : List ℕ). fault_so_far bytes ≡ None) (append_assoc read more first) all.sound)
-          (h.2 profile (read ++ more) given (running.gave read stands)).0);
-      front = λ read stands rest. subst (λ (bytes : List ℕ). IsPrefix given (inputs bytes))
-          (sym (append_assoc (read ++ more) h.0 rest) ∙ ap (λ (bytes : List ℕ). bytes ++ rest) (append_assoc read more h.0))
-          (inputs-first (running.gave read stands) (h.0 ++ rest));
-      is = λ read stands. subst (λ s. InputIs answer profile next (IsAtEnd now s) (read ++ (more ++ h.0)) given) same
-          (subst (λ (bytes : List ℕ). InputIs answer profile next (IsAtEnd now (slot_of reader)) bytes given)
-          (append_assoc read more h.0)
-          (h.2 profile (read ++ more) given (running.gave read stands)).1);
-    }
+module _ {S G E L P : Type 0} {m : Meaning S G E L P} {profile : ProfileValue} {first mid now : ShelfState} {slot : ℕ}
+    {before took : List ℕ → Type 0} {old reader : FrameReader} {recording : Recording S G E L P} {more : List ℕ} {given : List CycleInput}
+    (running : Running m profile first mid slot before took old reader recording more given) where
+  pub next-read : {answer other : Result (Option CycleInput) (Stopped RecordFault)} (next : FrameReader) → answer ≡ other
+      → Answered answer mid now reader next → slot_of reader ≡ slot → Next m profile first now slot old next given other
+  next-read {other = other} next is gave same = let h = subst (λ a. Answered a mid now reader next) is gave in record {
+    all = more ++ h.0;
+    reads = reads-then running.reads (subst (λ s. Reads mid now s h.0) same h.1);
+    needed = λ read stands. while-then (λ first. fault_so_far (read ++ first) ≡ None) more h.0 (running.needed read stands)
+        (while-weaker (λ first. HasAll ((read ++ more) ++ first) given) (λ first. fault_so_far (read ++ (more ++ first)) ≡ None) h.0
+        (λ first all. subst (λ (bytes : List ℕ). fault_so_far bytes ≡ None) (append_assoc read more first) all.sound)
+        (h.2 profile (read ++ more) given (running.gave read stands)).0);
+    front = λ read stands rest. subst (λ (bytes : List ℕ). IsPrefix given (inputs bytes))
+        (sym (append_assoc (read ++ more) h.0 rest) ∙ ap (λ (bytes : List ℕ). bytes ++ rest) (append_assoc read more h.0))
+        (inputs-first (running.gave read stands) (h.0 ++ rest));
+    is = λ read stands. subst (λ s. InputIs other profile next (IsAtEnd now s) (read ++ (more ++ h.0)) given) same
+        (subst (λ (bytes : List ℕ). InputIs other profile next (IsAtEnd now (slot_of reader)) bytes given)
+        (append_assoc read more h.0)
+        (h.2 profile (read ++ more) given (running.gave read stands)).1);
+  }
 
-    -- the same for a result that is known
-    pub next-as : (next : FrameReader) (answer other : Result (Option CycleInput) (Stopped RecordFault)) → answer ≡ other
-        → Answered answer mid now reader next → slot_of reader ≡ slot → Next first now slot old next given other
-    next-as next answer other is h same =
-        next-read next other (subst (λ a. Answered a mid now reader next) is h) same
+  -- one input more was run
+  pub running-next : (next : FrameReader) (ran : Recording S G E L P) (input : CycleInput) (run : RunFrame) {after : List ℕ → Type 0}
+      → (n : Next m profile first now slot old next given (Ok (Some input))) → Ran m profile given input ran run took after
+      → Running m profile first now slot before after old next ran n.all (given ++ input ∷ [])
+  running-next next ran input run {after} n one = record {
+    reads = n.reads;
+    needed = n.needed;
+    gave = λ read stands. (n.is read stands).0;
+    stands = one.stands;
+    grew = subst (Grew before after)
+        (ap (λ r. record_with m profile given false ++ spelled_frame profile.format (Run r)) one.run
+        ∙ sym (record-next m profile given input))
+        (grew-then running.grew one.took);
+  }
 
-    -- one input more was run
-    pub running-next : (next : FrameReader) (ran : Recording S G E L P) (input : CycleInput) (run : RunFrame) {after : List ℕ → Type 0}
-        → (n : Next first now slot old next given (Ok (Some input))) → Ran m profile given input ran run took after
-        → Running first now slot before after old next ran n.all (given ++ input ∷ [])
-    running-next next ran input run {after} n one = record {
-      reads = n.reads;
-      needed = n.needed;
-      gave = λ read stands. (n.is read stands).0;
-      stands = one.stands;
-      grew = subst (Grew before after)
-          (ap (λ r. record_with m profile given false ++ spelled_frame profile.format (Run r)) one.run
-          ∙ sym (record-next m profile given input))
-          (grew-then running.grew one.took);
-    }
-
+module _ {S G E L P : Type 0} {m : Meaning S G E L P} {profile : ProfileValue} where
   -- no write failed where the reader stopped
   pub no-write : {first now : ShelfState} {slot : ℕ} {old next : FrameReader} {given : List CycleInput} (why : Stopped RecordFault)
-      (read : List ℕ) → StandsFor old read (items.Header profile ∷ []) → Next first now slot old next given (Err why)
+      (read : List ℕ) → StandsFor old read (items.Header profile ∷ []) → Next m profile first now slot old next given (Err why)
       → (sink : SinkRun) → SinkTraffic sink None → SinkTraffic sink (failure_in {A = Counts} (Err why))
   no-write (Refused fault) read stands n sink t = t
   no-write (Failed Read) read stands n sink t = record { cause = λ e. cc; counted = t.counted }
   no-write (Failed Write) read stands n sink t = absurd (n.is read stands)
   no-write (Failed OutOfMemory) read stands n sink t = record { cause = λ e. cc; counted = t.counted }
 
-  -- fewer than 1,000,000 cycles were run before the next one
-  pub few-cycles : {recording : Recording S G E L P} {given : List CycleInput} (input : CycleInput) → IsRecordingAfter m recording given
-      → length (given ++ input ∷ []) ≤ 1000000 → recording.engine.cycles < 1000000
-  few-cycles {given = given} input stands few =
-      let cycles = stands.engine.cycles in let one = length-append given (input ∷ []) in omega arith
+-- fewer than 1,000,000 cycles were run before the next one
+pub few-cycles : {S G E L P : Type 0} {m : Meaning S G E L P} {recording : Recording S G E L P} {given : List CycleInput}
+    (input : CycleInput) → IsRecordingAfter m recording given → length (given ++ input ∷ []) ≤ 1000000
+    → recording.engine.cycles < 1000000
+few-cycles {given = given} input stands few =
+    let cycles = stands.engine.cycles in let one = length-append given (input ∷ []) in omega arith
 
 -- no read failed where a frame wasn't written
 pub no-read : (failure : Failure) (before after : List ℕ → Type 0) (bytes : List ℕ) (shelf : ShelfRun)
@@ -145,24 +140,3 @@ pub no-read : (failure : Failure) (before after : List ℕ → Type 0) (bytes : 
 no-read Read before after bytes shelf h t = absurd h
 no-read Write before after bytes shelf h t = record { cause = λ e. cc; counted = t.counted; stays = t.stays }
 no-read OutOfMemory before after bytes shelf h t = record { cause = λ e. cc; counted = t.counted; stays = t.stays }
-
--- what is nothing else is None
-pub none-of : {X : Type 0} (o : Option X) → ((x : X) → o ≡ Some x → ⊥) → o ≡ None
-none-of (Some x) other = absurd (other x refl)
-none-of None other = refl
-
--- nothing failed before
-pub shelf-then : (failure : Option Failure) (first mid last : ShelfState) (earlier later stays : Type 0)
-    → ShelfTraffic (record { first = first; last = mid; stays = earlier }) None
-    → ShelfTraffic (record { first = mid; last = last; stays = later }) failure → stays
-    → ShelfTraffic (record { first = first; last = last; stays = stays }) failure
-shelf-then failure first mid last earlier later stays a b same = record {
-  cause = λ e. rose-before first.faults mid.faults last.faults a.counted (b.cause e);
-  counted = let one = a.counted in let two = b.counted in omega arith;
-  stays = same;
-}
-
--- a result without an input has the failure that the reader reported
-pub same-failure : (why : Stopped RecordFault) → failure_in {A = Option CycleInput} (Err why) ≡ failure_in {A = Counts} (Err why)
-same-failure (Refused fault) = refl
-same-failure (Failed failure) = refl

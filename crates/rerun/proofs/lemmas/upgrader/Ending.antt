@@ -1,8 +1,7 @@
 -- How a record that is upgraded ends.
-use Rattle.std.proofs.Common.{◌≡◌, inl, inr, ℕ, List, [], ◌∷◌, ◌++◌, length, refl, sym, ap, subst, ◌∙◌, append_assoc, append-nil}
+use Rattle.std.proofs.Common.{◌≡◌, inl, inr, ℕ, List, [], ◌∷◌, ◌++◌, length, map, refl, sym, ap, subst, ◌∙◌, append_assoc, append-nil}
 use Rattle.std.specs.Prelude.{Bool, false, Option, Some, None, Result, Ok, Err}
 use Rattle.std.specs.Option.{is_none}
-use Rattle.std.specs.List.{flat_map}
 use Rattle.det_values.specs.Values.{ProfileValue}
 use Rattle.det_values.specs.declared.frames.Frame.{Frame}
 use Rattle.det_values.specs.declared.frames.Frame.TheVariants.{Terminate}
@@ -17,7 +16,6 @@ use Rattle.det_io.proofs.Growth.{grew-then, grew-same, grew-then-short, part-who
 use Rattle.det_io.proofs.SlotReads.{reads-none}
 use Rattle.job.specs.Meaning.{Meaning}
 use Rattle.record_grammar.specs.declared.record_fault.RecordFault.{RecordFault}
-use Rattle.record_grammar.specs.declared.item.Item.{Item}
 use Rattle.record_grammar.specs.declared.item.Item.TheVariants as items
 use Rattle.record_grammar.specs.Record.{items as items_in, fault as fault_in}
 use Rattle.record_grammar.specs.Spelling.{spelled, spelled_frame}
@@ -32,21 +30,24 @@ use Rattle.rerun.specs.replayer.ReplayRecord.{inputs}
 use Rattle.rerun.specs.declared.checker.check_verdict.CheckVerdict.{CheckVerdict}
 use Rattle.rerun.specs.declared.checker.check_verdict.CheckVerdict.TheVariants.{Genuine, Departs}
 use Rattle.rerun.specs.checker.Departure.{departure}
-use Rattle.record_reader.specs.InItems.{frame_in}
 use Rattle.rerun.specs.checker.Needed.{IsNeeded}
 use Rattle.rerun.specs.checker.CheckVerdict.{verdict_by, check_verdict}
 use Rattle.rerun.specs.upgrader.Frames.{Takes}
 use Rattle.rerun.specs.upgrader.UpgradedRecord.{in_format_two, upgraded_with, upgraded}
 use Rattle.rerun.specs.upgrader.UpgradeEnds.{Answers, ReadsTo, Ended, IsUpgraded}
+use Rattle.rerun.proofs.Reading.{at_record, by-slot}
 use Rattle.rerun.proofs.lemmas.checker.Departing.{inputs_of}
+use Rattle.rerun.proofs.lemmas.checker.Records.{frames-are}
+use Rattle.rerun.proofs.lemmas.checker.Running.{items_with, Next}
 use Rattle.rerun.proofs.lemmas.upgrader.Order.{AreFrames, are_frames}
 use Rattle.rerun.proofs.lemmas.upgrader.Records.{Agree, agree-next, so_far, so_far-first, header-first, Departed, departed, AllDone}
 use Rattle.rerun.proofs.lemmas.upgrader.Records.{all-done}
-use Rattle.rerun.proofs.lemmas.upgrader.Going.{gone-first, Running, Next, gone-next, differs, piece, so_far-grows}
+use Rattle.rerun.proofs.lemmas.upgrader.Going.{compared-first, next-first, Running, differs, piece, so_far-grows}
 
--- a fact about what was read is one about the whole record where nothing follows
-at_record : (P : List ℕ → Type 0) (bytes rest : List ℕ) → rest ≡ [] → P bytes → P (bytes ++ rest)
-at_record P bytes rest none p = subst P (sym (ap (λ l. bytes ++ l) none ∙ append-nil bytes)) p
+-- these are all frames of a record
+all-frames : (profile : ProfileValue) (bytes : List ℕ) (done : List Frame) → items_in bytes ≡ items_with profile done
+    → AreFrames profile bytes done
+all-frames profile bytes done is = subst (AreFrames profile bytes) (frames-are done) (are_frames profile bytes (map items.Frame done) is)
 
 module _ {S G E L P : Type 0} (m : Meaning S G E L P) (profile : ProfileValue) where
   abbrev two : ProfileValue
@@ -57,14 +58,8 @@ module _ {S G E L P : Type 0} (m : Meaning S G E L P) (profile : ProfileValue) w
       → ReadsTo m profile result (read ++ more) (IsAtEnd shelf.last slot) out
       → ((rest : List ℕ) → (IsAtEnd shelf.last slot → rest ≡ []) → Answers m profile result ((read ++ more) ++ rest) out)
       → Ended m profile result read more shelf slot out
-  ended {result} {read} {more} {out = out} reads needed to each = record {
-    reads_to = to;
-    needed = needed;
-    answers = record {
-      reads = reads;
-      each = λ rest end. subst (λ (bytes : List ℕ). Answers m profile result bytes out) (append_assoc read more rest) (each rest end);
-    };
-  }
+  ended {result} {read} {out = out} reads needed to each =
+      record { reads_to = to; needed = needed; answers = by-slot read (λ bytes. Answers m profile result bytes out) reads each }
 
   pub as-told : {result : Result CheckVerdict (Stopped RecordFault)} {before : List ℕ} {shelf : ShelfRun} {slot : ℕ} {out : SinkRun}
       (more : List ℕ) → Ended m profile result before more shelf slot out → IsUpgraded m profile before slot shelf out result
@@ -87,12 +82,12 @@ module _ {S G E L P : Type 0} (m : Meaning S G E L P) (profile : ProfileValue) w
       (so_far-first m profile bytes done more (is_none (fault_in bytes)) are agree)
 
   -- the record has a fault, and no difference before it
-  faulty : (bytes : List ℕ) (behind : List Item) (done : List Frame) (fault : RecordFault) (out : SinkRun)
-      → items_in bytes ≡ items.Header profile ∷ behind → flat_map frame_in behind ≡ done → fault_in bytes ≡ Some fault
+  faulty : (bytes : List ℕ) (done : List Frame) (fault : RecordFault) (out : SinkRun)
+      → items_in bytes ≡ items_with profile done → fault_in bytes ≡ Some fault
       → Agree m profile done → Grew out.before out.after (spelled two (so_far m profile done))
       → Answers m profile (Err (Refused fault)) bytes out
-  faulty bytes behind done fault out is frames has agree grew =
-      let all = all-done m profile bytes done (subst (AreFrames profile bytes) frames (are_frames profile bytes behind is)) agree in (
+  faulty bytes done fault out is has agree grew =
+      let all = all-done m profile bytes done (all-frames profile bytes done is) agree in (
         verdict-is bytes None (Some fault) all.departure has,
         subst (Grew out.before out.after)
             (sym (ap (λ (end : Option RecordFault). upgraded_with m profile bytes (is_none end)) has ∙ all.upgraded)) grew,
@@ -114,17 +109,19 @@ module _ {S G E L P : Type 0} (m : Meaning S G E L P) (profile : ProfileValue) w
       {recording : Recording S G E L P} {more : List ℕ} {done : List Frame}
       (running : Running m profile shelf.first mid slot out.before took old reader recording more done) (next : FrameReader)
       (read : List ℕ) (stands : StandsFor old read (items.Header profile ∷ [])) where
+    agree : Agree m profile done
+    agree = running.compared.agree
+
     -- the frame that was read isn't what is given
     pub departs : (frame : Frame) (n : Next m profile shelf.first shelf.last slot old next done (Ok (Some frame))) (at : Difference)
         → differs m profile done frame ≡ Some at → Same took out.after
         → Ended m profile (Ok (Departs at)) read n.all shelf slot out
     departs frame n at differ same =
-        let gone = gone-next m profile frame n read stands in
         let by : (rest : List ℕ) (is_ended : Bool) → Departed m profile ((read ++ n.all) ++ rest) done at is_ended =
         λ rest is_ended.
-        let all = gone-first gone rest in
+        let all = next-first n read stands rest in
         departed m profile ((read ++ n.all) ++ rest) done all.0 frame at is_ended
-        (subst (AreFrames profile ((read ++ n.all) ++ rest)) (append_assoc done (frame ∷ []) all.0) all.1) running.agree differ in
+        (subst (AreFrames profile ((read ++ n.all) ++ rest)) (append_assoc done (frame ∷ []) all.0) all.1) agree differ in
         let here = subst (λ (bytes : List ℕ). departure m profile bytes ≡ Some at) (append-nil (read ++ n.all)) (by [] false).departure in
         ended n.reads (n.needed read stands) here (λ rest end.
         let bytes = (read ++ n.all) ++ rest in
@@ -145,30 +142,28 @@ module _ {S G E L P : Type 0} (m : Meaning S G E L P) (profile : ProfileValue) w
         subst (λ (b : List ℕ → Type 0). GrewShort b out.after (piece m profile done frame)) before
         (subst (λ (a : List ℕ → Type 0). GrewShort step.before a (piece m profile done frame)) after h.1) in
         ended n.reads (n.needed read stands) tt (λ rest end.
-        let all = gone-first (gone-next m profile frame n read stands) rest in
+        let all = next-first n read stands rest in
         let bytes = (read ++ n.all) ++ rest in
         short-wider out.before out.after (spelled two (so_far m profile (done ++ frame ∷ []))) (upgraded m profile bytes)
         (subst (GrewShort out.before out.after) (sym (so_far-grows m profile done frame))
         (grew-then-short out.before took out.after _ _ running.grew short))
         (so_far-first m profile bytes (done ++ frame ∷ []) all.0 (is_none (fault_in bytes)) all.1
-        (agree-next m profile done frame running.agree h.0)))
+        (agree-next m profile done frame agree h.0)))
     take-failed frame n OutOfMemory goes_on step before after h =
         let same : Same took out.after =
         subst (λ (b : List ℕ → Type 0). Same b out.after) before (subst (λ (a : List ℕ → Type 0). Same step.before a) after h) in
         ended n.reads (n.needed read stands) tt (λ rest end.
-        let all = n.front read stands rest in
-        part-of out done all.0 ((read ++ n.all) ++ rest) all.1 running.agree (grew-same running.grew same))
+        let all = compared-first n read stands rest in
+        part-of out done all.0 ((read ++ n.all) ++ rest) all.1 agree (grew-same running.grew same))
 
     module _ (n : Next m profile shelf.first shelf.last slot old next done (Ok None)) where
       whole-done : AllDone m profile (read ++ n.all) done
       whole-done =
-          let is = n.is read stands in
-          all-done m profile (read ++ n.all) done
-          (subst (AreFrames profile (read ++ n.all)) is.1 (are_frames profile (read ++ n.all) is.0 is.2.2)) running.agree
+          all-done m profile (read ++ n.all) done (all-frames profile (read ++ n.all) done (n.is read stands).2) agree
 
       whole-is : upgraded m profile (read ++ n.all) ≡ spelled two (so_far m profile done) ++ spelled_frame two.format Terminate
       whole-is =
-          let whole = (n.is read stands).2.3 in
+          let whole = (n.is read stands).3 in
           ap (λ (end : Option RecordFault). upgraded_with m profile (read ++ n.all) (is_none end)) whole ∙ whole-done.ended whole
 
       -- Terminate wasn't written
@@ -177,11 +172,11 @@ module _ {S G E L P : Type 0} (m : Meaning S G E L P) (profile : ProfileValue) w
       close-failed Read cut = absurd cut
       close-failed Write cut = ended n.reads (n.needed read stands) tt (λ rest end.
           at_record (λ bytes. GrewShort out.before out.after (upgraded m profile bytes)) (read ++ n.all) rest
-          (end (n.is read stands).2.1)
+          (end (n.is read stands).1)
           (subst (GrewShort out.before out.after) (sym whole-is) (grew-then-short out.before took out.after _ _ running.grew cut)))
       close-failed OutOfMemory cut = ended n.reads (n.needed read stands) tt (λ rest end.
-          let all = n.front read stands rest in
-          part-of out done all.0 ((read ++ n.all) ++ rest) all.1 running.agree (grew-same running.grew cut))
+          let all = compared-first n read stands rest in
+          part-of out done all.0 ((read ++ n.all) ++ rest) all.1 agree (grew-same running.grew cut))
 
       -- the record is whole
       pub closed : (cycles : ℕ) → cycles ≡ length (inputs_of done) → Grew took out.after (spelled_frame two.format Terminate)
@@ -189,10 +184,10 @@ module _ {S G E L P : Type 0} (m : Meaning S G E L P) (profile : ProfileValue) w
       closed cycles counted grew =
           let is = n.is read stands in
           let all = read ++ n.all in
-          let are = subst (AreFrames profile all) is.1 (are_frames profile all is.0 is.2.2) in
-          ended n.reads (n.needed read stands) is.2.1 (λ rest end.
-          at_record (λ bytes. Answers m profile (Ok (Genuine cycles)) bytes out) all rest (end is.2.1) (
-            verdict-is all None None whole-done.departure is.2.3
+          let are = all-frames profile all done is.2 in
+          ended n.reads (n.needed read stands) is.1 (λ rest end.
+          at_record (λ bytes. Answers m profile (Ok (Genuine cycles)) bytes out) all rest (end is.1) (
+            verdict-is all None None whole-done.departure is.3
                 ∙ ap (λ (k : ℕ). Ok (Genuine k)) (ap length are.inputs ∙ sym counted),
             subst (Grew out.before out.after) (sym whole-is) (grew-then running.grew grew),
           ))
@@ -205,30 +200,29 @@ module _ {S G E L P : Type 0} (m : Meaning S G E L P) (profile : ProfileValue) w
         let all = read ++ n.all in
         let is = n.is read stands in
         let grew = subst (λ (t : List ℕ → Type 0). Grew out.before t (spelled two (so_far m profile done))) same running.grew in
-        let stays : IsFaulty fault all (items.Header profile ∷ is.0) → (rest : List ℕ)
+        let stays : IsFaulty fault all (items_with profile done) → (rest : List ℕ)
         → Answers m profile (Err (Refused fault)) (all ++ rest) out =
-        λ stays rest. faulty (all ++ rest) is.0 done fault out (stays rest).0 is.1 (stays rest).1 running.agree grew in
+        λ stays rest. faulty (all ++ rest) done fault out (stays rest).0 (stays rest).1 agree grew in
         ended n.reads (n.needed read stands)
-        (elim is.2.0.found as (λ _. ReadsTo m profile (Err (Refused fault)) all (IsAtEnd shelf.last slot) out) [
+        (elim is.0.found as (λ _. ReadsTo m profile (Err (Refused fault)) all (IsAtEnd shelf.last slot) out) [
           | inl s ↦ inl (λ rest. (stays s rest).0)
           | inr at ↦ inr at
-        ]) (λ rest end. elim is.2.0.found as (λ _. Answers m profile (Err (Refused fault)) (all ++ rest) out) [
+        ]) (λ rest end. elim is.0.found as (λ _. Answers m profile (Err (Refused fault)) (all ++ rest) out) [
           | inl s ↦ stays s rest
           | inr at ↦ at_record (λ bytes. Answers m profile (Err (Refused fault)) bytes out) all rest (end at)
-              (faulty all is.0 done fault out is.2.0.before is.1 is.2.0.is running.agree grew)
+              (faulty all done fault out is.0.before is.0.is agree grew)
         ])
     reading-stopped (Failed Read) same n =
         let all = read ++ n.all in
         let is = n.is read stands in
         let grew = subst (λ (t : List ℕ → Type 0). Grew out.before t (spelled two (so_far m profile done))) same running.grew in
-        let are = subst (AreFrames profile all) is.1 (are_frames profile all is.0 is.2.1) in
-        let done_all = all-done m profile all done are running.agree in
+        let done_all = all-done m profile all done (all-frames profile all done is.1) agree in
         ended n.reads (n.needed read stands)
-        (is.2.2, done_all.departure, subst (Grew out.before out.after) (sym done_all.upgraded) grew) (λ rest end.
-        let front = n.front read stands rest in
-        part-of out done front.0 (all ++ rest) front.1 running.agree grew)
-    reading-stopped (Failed Write) same n = absurd (n.is read stands).2
+        (is.2, done_all.departure, subst (Grew out.before out.after) (sym done_all.upgraded) grew) (λ rest end.
+        let front = compared-first n read stands rest in
+        part-of out done front.0 (all ++ rest) front.1 agree grew)
+    reading-stopped (Failed Write) same n = absurd (n.is read stands)
     reading-stopped (Failed OutOfMemory) same n = ended n.reads (n.needed read stands) tt (λ rest end.
-        let front = n.front read stands rest in
-        part-of out done front.0 ((read ++ n.all) ++ rest) front.1 running.agree
+        let front = compared-first n read stands rest in
+        part-of out done front.0 ((read ++ n.all) ++ rest) front.1 agree
         (subst (λ (t : List ℕ → Type 0). Grew out.before t (spelled two (so_far m profile done))) same running.grew))

@@ -116,11 +116,6 @@ are_frames profile bytes behind is =
 
 -- ---- how many there are
 
-pub few_frames : (xs : List Item) → length (flat_map frame_in xs) ≤ length xs
-few_frames [] = omega arith
-few_frames (items.Header p ∷ xs) = let i = few_frames xs in omega arith
-few_frames (items.Frame f ∷ xs) = let i = few_frames xs in omega arith
-
 -- no more of them have an input
 pub fewer_inputs : (fs : List Frame) → length (inputs_of fs) ≤ length fs
 fewer_inputs [] = omega arith

@@ -2,7 +2,7 @@
 use Rattle.std.proofs.Common.{◌≡◌, ℕ, List, [], ◌∷◌, ◌++◌, sym, ap, ◌∙◌, arith}
 use Rattle.std.specs.Prelude.{Result, Ok, Err, Some, IsSome}
 use Rattle.det_io.specs.Shelf.{ShelfState}
-use Rattle.det_io.specs.Traffic.{IfRefused}
+use Rattle.det_io.specs.Traffic.{SinkRun, IfRefused}
 use Rattle.det_io.specs.declared.failure.Stopped.{Stopped}
 use Rattle.det_io.specs.declared.failure.Stopped.TheVariants.{Refused, Failed}
 use Rattle.record_reader.specs.Frames.{slot_of}
@@ -12,18 +12,8 @@ use Rattle.run_setup.specs.declared.recorded_run.bad_run.BadRun.{BadRun}
 use Rattle.run_setup.specs.declared.recorded_run.open_run.RecordedRun.{RecordedRun}
 use Rattle.run_setup.specs.recorded_run.Run.{RunValue, run_of}
 use Rattle.run_setup.specs.recorded_run.OpenedRun.{HasBegun}
+use Rattle.run_setup.proofs.Meeting.{meets-as}
 use Rattle.run_setup.proofs.lemmas.recorded_run.Resting.{rest, rest-told}
-
--- a run meets any outcome that is the same where the bytes of the names are known
-meets-as : (wanted other : Outcome) (is_known tells2 rose rose2 failed : Type 0) (before after : List ℕ → Type 0) (answer : Answer)
-    → (tells2 → is_known) → (tells2 → other ≡ wanted) → (rose → rose2)
-    → Meets wanted is_known rose failed before after answer → Meets other tells2 rose2 failed before after answer
-meets-as wanted other is_known tells2 rose rose2 failed before after answer t same r m = record {
-  part = λ x. rw (same x) (m.part (t x));
-  whole = λ x. rw (same x) (m.whole (t x));
-  read_fault = λ e. r (m.read_fault e);
-  write_fault = λ e. m.write_fault e;
-}
 
 pub is_known-name : (shelf : ShelfState) (name : List ℕ) → KnowsBytes shelf (name ∷ []) → IsSome (shelf.holds name)
 is_known-name shelf name t = t 0 name (omega arith)
@@ -42,14 +32,12 @@ module _ (wanted : List ℕ → Result RunValue BadRun → Outcome) {first mid :
       ∙ ap (λ (bytes : List ℕ). wanted bytes (as_run run)) (sym (rest-told begun is_known).1)
 
   -- what the rest of the record gives is what the whole record does
-  pub meets-told : (rose rose2 failed : Type 0) (before after : List ℕ → Type 0) (answer : Answer) → (rose → rose2)
-      → Meets (wanted (begun.read ++ rest begun) (as_run run)) (mid.left (slot_of run.frames) ≡ Some (rest begun)) rose failed
-      before after answer
-      → Meets (wanted (known_bytes first name) (run_of (known_bytes first name))) (KnowsBytes first (name
-      ∷ [])) rose2 failed before after answer
-  meets-told rose rose2 failed before after answer later met =
+  pub meets-told : (rose rose2 : Type 0) (out : SinkRun) (answer : Answer) → (rose → rose2)
+      → Meets (wanted (begun.read ++ rest begun) (as_run run)) (mid.left (slot_of run.frames) ≡ Some (rest begun)) rose out answer
+      → Meets (wanted (known_bytes first name) (run_of (known_bytes first name))) (KnowsBytes first (name ∷ [])) rose2 out answer
+  meets-told rose rose2 out answer later met =
       meets-as (wanted (begun.read ++ rest begun) (as_run run)) (wanted (known_bytes first name) (run_of (known_bytes first name)))
-      (mid.left (slot_of run.frames) ≡ Some (rest begun)) (KnowsBytes first (name ∷ [])) rose rose2 failed before after answer
+      (mid.left (slot_of run.frames) ≡ Some (rest begun)) (KnowsBytes first (name ∷ [])) rose rose2 out answer
       (λ t. (rest-told begun (is_known-name first name t)).0) (λ t. outcome-is (is_known-name first name t)) later met
 
 -- why there is no run, where the bytes of the name are known

@@ -1,8 +1,5 @@
-use Rattle.std.proofs.Common.{◌≡◌, ◌∙◌, inl, inr, arith}
-use Rattle.std.specs.Prelude.{IsSome}
-use Rattle.cli_answers.specs.Outcome.{known_bytes}
+use Rattle.std.proofs.Common.{inl, inr, arith}
 use Rattle.cli_answers.proofs.Keeping.{keeps-stay, keeps-read}
-use Rattle.cli_answers.proofs.KnownBytes.{whole-text}
 use Rattle.run_setup.proofs.Reading.{told-ok, told-err, told-too-long, takes}
 use Rattle.run_setup.proofs.setup.read_setup.Goals as goal
 
@@ -28,25 +25,15 @@ returns-in-Err-Refused-clause-refused g c =
 
 pub returns-clause-manifest : goal.returns-clause-manifest
 returns-clause-manifest g c =
-    let first = g.S.Slots.sees c.args.shelf.now in
-    let name = c.args.name.now in
     let read = c.in-Ok.ensures.ok in
-    let same : IsSome (first.holds name) → c.deref.result.now ≡ known_bytes first name = λ is_known.
-    c.deref.ensures.value ∙ whole-text first _ _ name c.in_ok-slot.slot c.in-Ok.text.items c.in_ok-slot.ensures.opens read.0 read.1 is_known
-    in
-    told-ok c.args.strict c.deref.result.now (known_bytes first name)
-    (IsSome (first.holds name)) same c.setup_of.result c.setup_of.ensures.manifest
+    told-ok c.args.strict (g.S.Slots.sees c.args.shelf.now) _ _ c.args.name.now c.in_ok-slot.slot c.in-Ok.text.items c.deref.result.now
+    c.deref.ensures.value c.in_ok-slot.ensures.opens read.0 read.1 c.setup_of.result c.setup_of.ensures.manifest
 
 pub returns-clause-refused : goal.returns-clause-refused
 returns-clause-refused g c =
-    let first = g.S.Slots.sees c.args.shelf.now in
-    let name = c.args.name.now in
     let read = c.in-Ok.ensures.ok in
-    let same : IsSome (first.holds name) → c.deref.result.now ≡ known_bytes first name = λ is_known.
-    c.deref.ensures.value ∙ whole-text first _ _ name c.in_ok-slot.slot c.in-Ok.text.items c.in_ok-slot.ensures.opens read.0 read.1 is_known
-    in
-    told-err c.args.strict c.deref.result.now (known_bytes first name)
-    (IsSome (first.holds name)) same c.setup_of.result c.setup_of.ensures.refused
+    told-err c.args.strict (g.S.Slots.sees c.args.shelf.now) _ _ c.args.name.now c.in_ok-slot.slot c.in-Ok.text.items c.deref.result.now
+    c.deref.ensures.value c.in_ok-slot.ensures.opens read.0 read.1 c.setup_of.result c.setup_of.ensures.refused
 
 pub returns-in_err-slot-clause-earlier : goal.returns-in_err-slot-clause-earlier
 returns-in_err-slot-clause-earlier g c = keeps-stay c.in_err-slot.ensures.slots

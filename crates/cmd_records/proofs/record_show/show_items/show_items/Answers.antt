@@ -1,20 +1,50 @@
-use Rattle.std.proofs.Common.{◌∙◌, refl, [], ◌∷◌, ◌++◌, Option, None, Result, Ok, Err, subst, rules}
+use Rattle.std.proofs.Common.{◌≡◌, ◌∙◌, ℕ, refl, List, [], Option, Some, None, Result, Ok, Err, subst, rules}
 use Rattle.det_io.specs.declared.failure.Stopped.{Stopped}
-use Rattle.det_io.specs.Traffic.{SinkTraffic, ShelfTraffic, shelf_run, sink_run, failure_in}
+use Rattle.det_io.specs.Shelf.{ShelfState, IsAtEnd}
+use Rattle.det_io.specs.Traffic.{SinkRun, SinkTraffic, ShelfTraffic, shelf_run, sink_run, failure_in}
+use Rattle.probes.specs.Reports.{AudienceState}
 use Rattle.probes.specs.Shows.{seen}
+use Rattle.record_grammar.specs.declared.item.Item.{Item}
 use Rattle.record_grammar.specs.declared.record_fault.RecordFault.{RecordFault}
 use Rattle.record_view.specs.declared.view.ItemView.{ItemView}
-use Rattle.record_reader.specs.item_reader.StandsFor.{GaveView, RoomFell, slot_of, room}
-use Rattle.record_reader.specs.ItemTaker.{IsNext, Takes, ItemsRead}
+use Rattle.record_view.specs.Shows.{IsSpelling}
+use Rattle.record_reader.specs.declared.item_reader.reader.ItemReader.{ItemReader}
+use Rattle.record_reader.specs.item_reader.StandsFor.{GaveView, HasRead, Holds, ItemIs, RoomFell, slot_of, room}
+use Rattle.record_reader.specs.ItemTaker.{IsNext, ItemTaker, Takes, ItemsRead}
 use Rattle.record_reader.proofs.lemmas.item_reader.Passing.{passed-on}
 use Rattle.record_reader.proofs.ItemTaker.{lifts-same, no-read}
-use Rattle.record_reader.proofs.Views.{Answered, answered, running-new, next-first, next-given, running-next, all-taken, reader-stopped}
+use Rattle.record_reader.proofs.Views.{Running, Answered, answered, running-new, next-first, next-given, running-next, all-taken, reader-stopped}
 use Rattle.record_reader.proofs.Views.{taker-stopped, no-write, none-left}
 use Rattle.record_text.specs.declared.show_part.ShowPart.{ShowPart}
+use Rattle.cmd_records.specs.declared.record_show.printer.Printer.{Printer}
 use Rattle.cmd_records.specs.record_show.PrintedItems.{AreShown, Kept, showing}
 use Rattle.cmd_records.proofs.lemmas.record_show.Parts.{none-yet}
 use Rattle.cmd_records.proofs.lemmas.record_show.Taken.{kept-same, kept-then, shown-room}
 use Rattle.cmd_records.proofs.record_show.show_items.show_items.Goals as goal
+
+-- what the reader gave, by its case
+answered-as : {taking : ItemTaker RecordFault} {first mid now : ShelfState} {slot : ℕ} {reader : ItemReader} {before after : List ℕ
+    → Type 0}
+    (h : Running taking first mid slot reader before after) (next : ItemReader) {given item : Option ItemView} → given ≡ item
+    → HasRead mid now reader (ItemIs (Ok given) next (IsAtEnd now (slot_of reader))) → Answered h now next (Ok item)
+answered-as {now = now} h next {given} is read = subst (λ (o : Option ItemView). Answered h now next (Ok o)) is (answered h next (Ok given)
+    read)
+
+-- what the printer took of it
+takes-next : {part : ShowPart} {first now last : AudienceState} {old new : Printer} {start mid state : ShelfState} {slot : ℕ}
+    {reader : ItemReader} {before after : List ℕ → Type 0} {bytes : List ℕ} {result : Result (Unit {0}) (Stopped RecordFault)}
+    {out : SinkRun} (h : Running (showing part first now old) start mid slot reader before after) (next : ItemReader) (view : ItemView)
+    (answer : Answered h state next (Ok (Some view))) → old.part ≡ part
+    → ((item : Item) → Holds next view item → IsSpelling view item bytes)
+    → ((first : AudienceState) (given : List Item) (item : Item) → AreShown old.part first now old given → IsNext given item view bytes
+    → Takes result (showing old.part first last new) given item [] out)
+    → Takes result (showing part first last new) h.given answer.2.item [] out
+takes-next {first = first} {now = now} {last = last} {old = old} {new = new} {bytes = bytes} {result = result} {out = out} h next view
+    answer
+    is spelled takes =
+    subst (λ (p : ShowPart). AreShown p first now old h.given → IsNext h.given answer.2.item view bytes
+    → Takes result (showing p first last new) h.given answer.2.item [] out) is (takes first h.given answer.2.item) h.stands
+    (next-given h next view answer bytes spelled)
 
 pub items-init : goal.items-init
 items-init g c =
@@ -55,9 +85,7 @@ pub returns-in_default-clause-items : goal.returns-in_default-clause-items
 returns-in_default-clause-items g c =
     let h = c.items.invariant.running in
     all-taken h c.next.new.self
-    (subst (λ (o : Option ItemView). Answered h (g.S.Slots.sees c.next.new.shelf) c.next.new.self (Ok o))
-    (none-left c.in_ok-view.field-0 c.in_default.not-Some)
-    (answered h c.next.new.self (Ok c.in_ok-view.field-0) c.in_ok-view.ensures.item))
+    (answered-as h c.next.new.self (none-left c.in_ok-view.field-0 c.in_default.not-Some) c.in_ok-view.ensures.item)
 
 pub bytes-requires : goal.bytes-requires
 bytes-requires g c = subst (λ (o : Option ItemView). GaveView (Ok o) c.next.new.self) c.in-Some.is c.in_ok-view.ensures.held
@@ -65,15 +93,13 @@ bytes-requires g c = subst (λ (o : Option ItemView). GaveView (Ok o) c.next.new
 pub take-requires-clause-few : goal.take-requires-clause-few
 take-requires-clause-few g c =
     let h = c.items.invariant.running in
-    let answer = subst (λ (o : Option ItemView). Answered h (g.S.Slots.sees c.next.new.shelf) c.next.new.self (Ok o)) c.in-Some.is
-    (answered h c.next.new.self (Ok c.in_ok-view.field-0) c.in_ok-view.ensures.item) in
+    let answer = answered-as h c.next.new.self c.in-Some.is c.in_ok-view.ensures.item in
     shown-room c.items.printer _ _ h.given answer.2.item h.stands (next-first h c.next.new.self c.in-Some.view answer)
 
 pub take-requires-clause-spelled : goal.take-requires-clause-spelled
 take-requires-clause-spelled g c =
     let h = c.items.invariant.running in
-    let answer = subst (λ (o : Option ItemView). Answered h (g.S.Slots.sees c.next.new.shelf) c.next.new.self (Ok o)) c.in-Some.is
-    (answered h c.next.new.self (Ok c.in_ok-view.field-0) c.in_ok-view.ensures.item) in
+    let answer = answered-as h c.next.new.self c.in-Some.is c.in_ok-view.ensures.item in
     (answer.2.item, c.bytes.ensures answer.2.item answer.2.holds)
 
 pub items-smaller : goal.items-smaller
@@ -88,16 +114,12 @@ items-preserved g c =
     let first = seen (λ b. (goal.Probe-dyn g (b.vtable, b.value)).life b.value) c.args.audience.now in
     let now = seen (λ b. (goal.Probe-dyn g (b.vtable, b.value)).life b.value) c.items.audience in
     let last = seen (λ b. (goal.Probe-dyn g (b.vtable, b.value)).life b.value) c.take.new.audience in
-    let answer = subst (λ (o : Option ItemView). Answered h (g.S.Slots.sees c.next.new.shelf) c.next.new.self (Ok o)) c.in-Some.is
-    (answered h c.next.new.self (Ok c.in_ok-view.field-0) c.in_ok-view.ensures.item) in
-    let takes = subst (λ (p : ShowPart). AreShown p first now c.items.printer h.given → IsNext h.given answer.2.item c.in-Some.view c.bytes.result.now
-    → Takes (Ok c.in_ok-take.field-0) (showing p first last c.take.new.self) h.given answer.2.item []
-    (sink_run g.K.Sink.took g.K.Sink.faults c.items.sink c.take.new.sink))
-    c.items.invariant.part (c.in_ok-take.ensures.takes first h.given answer.2.item) in
+    let answer = answered-as h c.next.new.self c.in-Some.is c.in_ok-view.ensures.item in
+    let takes = takes-next h c.next.new.self c.in-Some.view answer c.items.invariant.part c.bytes.ensures c.in_ok-take.ensures.takes in
     record {
       running = running-next h c.next.new.self c.in-Some.view (showing c.args.printer.now.part first last c.take.new.self) refl answer
           c.in_ok-view.ensures.slot
-          (takes h.stands (next-given h c.next.new.self c.in-Some.view answer c.bytes.result.now c.bytes.ensures));
+          takes;
       part = c.in_ok-take.ensures.part ∙ c.items.invariant.part;
       kept = kept-then c.args.printer.now.part first now last c.items.invariant.kept
           (subst (λ (p : ShowPart). Kept p now last) c.items.invariant.part c.in_ok-take.ensures.kept);
@@ -109,20 +131,15 @@ pub returns-in_err-take-clause-items : goal.returns-in_err-take-clause-items
 returns-in_err-take-clause-items g c =
     let h = c.items.invariant.running in
     let first = seen (λ b. (goal.Probe-dyn g (b.vtable, b.value)).life b.value) c.args.audience.now in
-    let now = seen (λ b. (goal.Probe-dyn g (b.vtable, b.value)).life b.value) c.items.audience in
     let last = seen (λ b. (goal.Probe-dyn g (b.vtable, b.value)).life b.value) c.take.new.audience in
-    let answer = subst (λ (o : Option ItemView). Answered h (g.S.Slots.sees c.next.new.shelf) c.next.new.self (Ok o)) c.in-Some.is
-    (answered h c.next.new.self (Ok c.in_ok-view.field-0) c.in_ok-view.ensures.item) in
-    let takes = subst (λ (p : ShowPart). AreShown p first now c.items.printer h.given → IsNext h.given answer.2.item c.in-Some.view c.bytes.result.now
-    → Takes (Err c.in_err-take.field-0.0) (showing p first last c.take.new.self) h.given answer.2.item []
-    (sink_run g.K.Sink.took g.K.Sink.faults c.items.sink c.take.new.sink))
-    c.items.invariant.part (c.in_err-take.ensures.takes first h.given answer.2.item) in
+    let answer = answered-as h c.next.new.self c.in-Some.is c.in_ok-view.ensures.item in
+    let takes = takes-next h c.next.new.self c.in-Some.view answer c.items.invariant.part c.bytes.ensures c.in_err-take.ensures.takes in
     passed-on (λ (r : Result (Unit {0}) (Stopped RecordFault)). ItemsRead r (showing c.args.printer.now.part first last c.take.new.self)
     (shelf_run g.S.Slots.sees g.S.Slots.stays c.args.shelf.now c.next.new.shelf)
     (slot_of c.args.reader.now) (sink_run g.K.Sink.took g.K.Sink.faults c.args.sink.now c.take.new.sink))
     c.from_residual-in_err-take.result c.from_residual-in_err-take.ensures.1
     (taker-stopped c.next.new.self c.in-Some.view c.in_err-take.field-0.0 (showing c.args.printer.now.part first last c.take.new.self)
-    refl h answer (takes h.stands (next-given h c.next.new.self c.in-Some.view answer c.bytes.result.now c.bytes.ensures)))
+    refl h answer takes)
 
 pub returns-in_err-take-clause-kept : goal.returns-in_err-take-clause-kept
 returns-in_err-take-clause-kept g c =
@@ -135,18 +152,10 @@ returns-in_err-take-clause-kept g c =
 pub returns-in_err-take-clause-shelf_traffic : goal.returns-in_err-take-clause-shelf_traffic
 returns-in_err-take-clause-shelf_traffic g c =
     let h = c.items.invariant.running in
-    let first = seen (λ b. (goal.Probe-dyn g (b.vtable, b.value)).life b.value) c.args.audience.now in
-    let now = seen (λ b. (goal.Probe-dyn g (b.vtable, b.value)).life b.value) c.items.audience in
-    let last = seen (λ b. (goal.Probe-dyn g (b.vtable, b.value)).life b.value) c.take.new.audience in
-    let answer = subst (λ (o : Option ItemView). Answered h (g.S.Slots.sees c.next.new.shelf) c.next.new.self (Ok o)) c.in-Some.is
-    (answered h c.next.new.self (Ok c.in_ok-view.field-0) c.in_ok-view.ensures.item) in
-    let takes = subst (λ (p : ShowPart). AreShown p first now c.items.printer h.given → IsNext h.given answer.2.item c.in-Some.view c.bytes.result.now
-    → Takes (Err c.in_err-take.field-0.0) (showing p first last c.take.new.self) h.given answer.2.item []
-    (sink_run g.K.Sink.took g.K.Sink.faults c.items.sink c.take.new.sink))
-    c.items.invariant.part (c.in_err-take.ensures.takes first h.given answer.2.item) in
+    let answer = answered-as h c.next.new.self c.in-Some.is c.in_ok-view.ensures.item in
+    let takes = takes-next h c.next.new.self c.in-Some.view answer c.items.invariant.part c.bytes.ensures c.in_err-take.ensures.takes in
     let traffic : ShelfTraffic (shelf_run g.S.Slots.sees g.S.Slots.stays c.args.shelf.now c.next.new.shelf) None = search rules in
     passed-on (λ (r : Result (Unit {0}) (Stopped RecordFault)). ShelfTraffic
     (shelf_run g.S.Slots.sees g.S.Slots.stays c.args.shelf.now c.next.new.shelf) (failure_in r))
     c.from_residual-in_err-take.result c.from_residual-in_err-take.ensures.1
-    (no-read c.in_err-take.field-0.0 (takes h.stands (next-given h c.next.new.self c.in-Some.view answer c.bytes.result.now
-    c.bytes.ensures)) traffic)
+    (no-read c.in_err-take.field-0.0 takes traffic)

@@ -1,25 +1,32 @@
-use Rattle.std.proofs.Common.{arith}
-use Rattle.det_io.proofs.Opening.{asks-all, asks-then-kept, opens-left}
-use Rattle.det_io.proofs.Counts.{rose-before}
+use Rattle.std.proofs.Common.{Result, ap, subst, ◌∙◌}
+use Rattle.det_io.specs.declared.failure.Stopped.{Stopped}
 use Rattle.det_io.specs.Traffic.{sink_run}
+use Rattle.det_io.proofs.Opening.{asks-all, asks-then-kept}
 use Rattle.det_io.proofs.Growth.{grew-none}
-use Rattle.cli_answers.specs.Outcome.{known_bytes}
-use Rattle.cli_answers.proofs.Keeping.{keeps-stay, keeps-read}
-use Rattle.cli_answers.proofs.AnswerMeets.{meets-unopened, meets-under}
-use Rattle.cli_answers.proofs.KnownBytes.{held}
-use Rattle.cmd_records.proofs.lemmas.record_show.Answering.{saw-unread, kept-unread}
-use Rattle.cmd_records.proofs.lemmas.show_command.ShowMeets.{broken-off, unopened}
+use Rattle.probes.specs.Shows.{seen}
+use Rattle.record_grammar.specs.declared.record_fault.RecordFault.{RecordFault}
+use Rattle.record_grammar.specs.Record.{items as items_in}
+use Rattle.record_reader.proofs.Items.{no-items}
+use Rattle.cli_answers.proofs.AnswerMeets.{meets-unopened}
+use Rattle.cmd_records.specs.declared.record_show.shown.Shown.{Shown}
+use Rattle.cmd_records.specs.command_ends.Results.{UnlessNoMemory}
+use Rattle.cmd_records.specs.record_show.ShowEnds.{SawFirst, WroteRead}
+use Rattle.cmd_records.specs.record_show.Text.{lines_of}
+use Rattle.cmd_records.specs.show_command.Show.{show_outcome}
+use Rattle.cmd_records.proofs.lemmas.command_ends.OneRecord.{at-done, unless-no-memory, unopened, of-name, meets-record, broken-off}
+use Rattle.cmd_records.proofs.lemmas.command_ends.OneRecord.{keeps-earlier}
+use Rattle.cmd_records.proofs.lemmas.record_show.Answering.{saw-unread, kept-unread, no-lines}
+use Rattle.cmd_records.proofs.lemmas.show_command.ShowMeets.{show-gives}
 use Rattle.cmd_records.proofs.show_command.show_record.show.Goals as goal
 
 pub returns-in-Err-clause-meets : goal.returns-in-Err-clause-meets
 returns-in-Err-clause-meets g c =
-    rw c.from.ensures (meets-unopened _ _ _ _ _ _ c.in-Err.ensures.cause c.in-Err.ensures.writes_nothing)
+    rw c.from.ensures (meets-unopened _ _ _ _ _ _ _ c.in-Err.ensures.traffic.cause c.in-Err.ensures.no_write)
 
 pub returns-in-Err-clause-broken : goal.returns-in-Err-clause-broken
-returns-in-Err-clause-broken g c e t = unopened c.args.part c.args.recorded.now (g.K.Sink.took c.args.out.now) c.in-Err.ensures.slots
-
-pub returns-in-Err-clause-asked : goal.returns-in-Err-clause-asked
-returns-in-Err-clause-asked g c = asks-all _ _ _ c.in-Err.ensures.asked
+returns-in-Err-clause-broken g c e t =
+    unopened (λ read. lines_of c.args.part (items_in read)) (g.K.Sink.took c.args.out.now)
+    (ap (lines_of c.args.part) no-items ∙ no-lines c.args.part) c.in-Err.ensures.slots
 
 pub returns-in-Err-clause-saw : goal.returns-in-Err-clause-saw
 returns-in-Err-clause-saw g c ne t =
@@ -31,32 +38,42 @@ returns-in-Err-clause-kept g c = kept-unread c.args.part _
 
 pub returns-clause-meets : goal.returns-clause-meets
 returns-clause-meets g c =
-    let first = g.S.Slots.sees c.args.shelf.now in
-    let name = c.args.recorded.now in
-    let text = known_bytes first name in
-    meets-under _ _ _ _ _ _ _ _ _ _ (λ t. opens-left text c.in-Ok.ensures.opens (held (first.holds name) (t 0 name (omega arith))))
-    (λ r. rose-before _ _ _ c.in-Ok.ensures.counted r) (λ o. o) (c.show_slot.ensures.meets text)
+    let s = c.show_run-shown in
+    let old = seen (λ b. (goal.Probe-dyn g (b.vtable, b.value)).life b.value) c.args.audience.now in
+    let out = sink_run g.K.Sink.took g.K.Sink.faults c.args.out.now s.new.sink in
+    meets-record c.in-Ok.ensures.opens c.new-reader.ensures.slot s.result c.record_answer.result (show_outcome c.args.part old) out
+    c.record_answer.ensures.is (show-gives c.args.part old out s.result s.ensures.run.1.answers) c.in-Ok.ensures.traffic.counted
+    s.ensures.shelf_traffic s.ensures.sink_traffic
 
 pub returns-clause-broken : goal.returns-clause-broken
-returns-clause-broken g c e t =
-    let first = g.S.Slots.sees c.args.shelf.now in
-    let name = c.args.recorded.now in
-    let text = known_bytes first name in
-    broken-off c.args.part c.in-Ok.ensures.opens (c.show_slot.ensures.broken text e
-    (opens-left text c.in-Ok.ensures.opens (held (first.holds name) (t 0 name (omega arith)))))
+returns-clause-broken g c =
+    let s = c.show_run-shown in
+    let run = s.ensures.run in
+    let out = sink_run g.K.Sink.took g.K.Sink.faults c.args.out.now s.new.sink in
+    broken-off c.in-Ok.ensures.opens c.new-reader.ensures.slot s.result (λ read. lines_of c.args.part (items_in read)) out
+    c.record_answer.ensures.is run.1.answers.reads
+    (λ e. subst (λ (r : Result Shown (Stopped RecordFault)). WroteRead r c.args.part run.0 out) e run.1.wrote)
 
 pub returns-clause-saw : goal.returns-clause-saw
-returns-clause-saw g c ne t =
-    let first = g.S.Slots.sees c.args.shelf.now in
-    let name = c.args.recorded.now in
-    let text = known_bytes first name in
-    c.show_slot.ensures.saw text ne (opens-left text c.in-Ok.ensures.opens (held (first.holds name) (t 0 name (omega arith))))
+returns-clause-saw g c ne is_known =
+    let s = c.show_run-shown in
+    let old = seen (λ b. (goal.Probe-dyn g (b.vtable, b.value)).life b.value) c.args.audience.now in
+    let now = seen (λ b. (goal.Probe-dyn g (b.vtable, b.value)).life b.value) s.new.audience in
+    let out = sink_run g.K.Sink.took g.K.Sink.faults c.args.out.now s.new.sink in
+    unless-no-memory s.result c.record_answer.result c.record_answer.ensures.is
+    (of-name c.in-Ok.ensures.opens c.new-reader.ensures.slot
+    (λ bytes. UnlessNoMemory s.result (SawFirst c.args.part old now bytes out)) s.ensures.run.1.sees is_known) ne
+
+pub returns-clause-gone : goal.returns-clause-gone
+returns-clause-gone g c =
+    at-done c.show_run-shown.result c.record_answer.result c.record_answer.ensures.is c.show_run-shown.ensures.run.1.gone
+
+pub returns-clause-kept : goal.returns-clause-kept
+returns-clause-kept g c = c.show_run-shown.ensures.run.1.kept
 
 pub returns-clause-asked : goal.returns-clause-asked
-returns-clause-asked g c = asks-all _ _ _ (asks-then-kept c.in-Ok.ensures.asked c.show_slot.ensures.reads.1.asked)
-
-pub returns-in-Err-clause-earlier : goal.returns-in-Err-clause-earlier
-returns-in-Err-clause-earlier g c = keeps-stay c.in-Err.ensures.slots
+returns-clause-asked g c = asks-all _ _ _ (asks-then-kept c.in-Ok.ensures.asks c.show_run-shown.ensures.run.1.answers.reads.asked)
 
 pub returns-clause-earlier : goal.returns-clause-earlier
-returns-clause-earlier g c = keeps-read c.in-Ok.ensures.opens c.show_slot.ensures.reads.1
+returns-clause-earlier g c =
+    keeps-earlier c.in-Ok.ensures.opens c.new-reader.ensures.slot c.show_run-shown.ensures.run.1.answers.reads

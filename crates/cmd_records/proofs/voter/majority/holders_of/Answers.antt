@@ -10,15 +10,15 @@ voters-preserved c = record {
       let less : c.voters.at < length c.args.voters.now = search rules in
       let seven = c.voters.invariant.seven in
       let few = c.requires.few in
-      flags-next (same_row (get_or more c.args.first None)) c.voters.same more c.voters.at c.holds_row_of-holds.result
+      flags-next (same_row (get_or more c.args.first None)) c.voters.same more c.voters.at c.holds_row_of_copy-holds.result
       (omega (arith, less, seven, few)) (omega (arith, less, many)) (c.voters.invariant.same place more h)
-      (c.holds_row_of-holds.ensures place more h);
+      (c.holds_row_of_copy-holds.ensures place more h);
   count = λ place more h.
       let many = held-many place c.args.voters.now more h in
       let less : c.voters.at < length c.args.voters.now = search rules in
-      count-next (same_row (get_or more c.args.first None)) more c.voters.at c.voters.count c.one_if-count.result
+      count-next (same_row (get_or more c.args.first None)) more c.voters.at c.voters.count c.vote_if-count.result
       (omega (arith, less, many)) (c.voters.invariant.count place more h)
-      (c.one_if-count.ensures ∙ ap (λ b. cond b 1 0) (c.holds_row_of-holds.ensures place more h));
+      (c.vote_if-count.ensures ∙ ap (λ b. cond b 1 0) (c.holds_row_of_copy-holds.ensures place more h));
   few = search rules;
   seven = search rules;
 }

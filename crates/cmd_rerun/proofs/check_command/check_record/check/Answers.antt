@@ -20,8 +20,8 @@ returns-in-Ok-clause-meets g c =
     let old = seen (λ b. (goal.Probe-dyn g (b.vtable, b.value)).life b.value) c.args.audience.now in
     let out = sink_run g.K.Sink.took g.K.Sink.faults c.args.out.now c.check_by_crew.new.out in
     let begun = c.in-Ok.ensures.begun in
-    meets-told (checked_by old) begun c.in-Ok.ensures.run (Rose mid last) (Rose first last) (Rose out.faults_before out.faults_after)
-    out.before out.after c.check_by_crew.result (rose-before first mid last c.in-Ok.ensures.traffic.counted)
+    meets-told (checked_by old) begun c.in-Ok.ensures.run (Rose mid last) (Rose first last) out
+    c.check_by_crew.result (rose-before first mid last c.in-Ok.ensures.traffic.counted)
     (c.check_by_crew.ensures.meets begun.read (rest begun) begun.gave)
 
 pub returns-in-Ok-clause-asked : goal.returns-in-Ok-clause-asked
@@ -51,7 +51,7 @@ returns-in-Err-clause-meets g c =
     rw c.bad_run_answer.ensures
     (meets-end (checked_by old (known_bytes first name)) (λ why. refl) (known_bytes first name) (KnowsBytes first (name
     ∷ [])) (Rose first.faults last.faults)
-    (Rose out.faults_before out.faults_after) out.before c.in-Err.end (if-refused first name c.in-Err.end read.refused) read.traffic.cause
+    out.before out.faults_before out.faults_after c.in-Err.end (if-refused first name c.in-Err.end read.refused) read.traffic.cause
     read.writes_nothing)
 
 pub returns-in-Ok-clause-earlier : goal.returns-in-Ok-clause-earlier

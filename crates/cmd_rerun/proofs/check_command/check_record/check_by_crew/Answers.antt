@@ -1,5 +1,4 @@
 use Rattle.std.proofs.Common.{subst, ◌∙◌, Ok}
-use Rattle.det_io.specs.Count.{Rose}
 use Rattle.det_io.specs.Traffic.{shelf_run, sink_run}
 use Rattle.probes.specs.Shows.{seen}
 use Rattle.cli_answers.specs.Outcome.{Meets}
@@ -10,7 +9,7 @@ use Rattle.cmd_rerun.proofs.lemmas.check_command.Seeing.{saw-verdict, saw-stop}
 use Rattle.cmd_rerun.proofs.check_command.check_record.check_by_crew.Goals as goal
 
 pub returns-in-Err-clause-meets : goal.returns-in-Err-clause-meets
-returns-in-Err-clause-meets g c read rest stands = rw c.in-Err.ensures.sink (meets-no-memory _ _ _ _ _)
+returns-in-Err-clause-meets g c read rest stands = rw c.in-Err.ensures.sink (meets-no-memory _ _ _ _ _ _)
 
 pub returns-in-Err-checked-clause-meets : goal.returns-in-Err-checked-clause-meets
 returns-in-Err-checked-clause-meets g c read rest stands =
@@ -20,7 +19,7 @@ returns-in-Err-checked-clause-meets g c read rest stands =
     let old = seen (λ b. (goal.Probe-dyn g (b.vtable, b.value)).life b.value) c.args.audience.now in
     let now = seen (λ b. (goal.Probe-dyn g (b.vtable, b.value)).life b.value) c.with_crew.new.audience in
     met-stop run.kind run.profile run.frames read stands shelf sink old now c.in-Ok.checked c.in-Ok.ensures.given c.in-Err-checked.stop rest
-    (Rose sink.faults_before sink.faults_after) c.from.result c.in-Err-checked.is c.from.ensures
+    c.from.result c.in-Err-checked.is c.from.ensures
 
 pub returns-in-Err-checked-clause-reads : goal.returns-in-Err-checked-clause-reads
 returns-in-Err-checked-clause-reads g c =
@@ -50,7 +49,6 @@ returns-in_default-clause-meets g c read rest stands =
     let old = seen (λ b. (goal.Probe-dyn g (b.vtable, b.value)).life b.value) c.args.audience.now in
     let now = seen (λ b. (goal.Probe-dyn g (b.vtable, b.value)).life b.value) c.with_crew.new.audience in
     met-unprinted run.kind run.profile run.frames read stands shelf sink old now c.in-Ok.checked c.in-Ok.ensures.given rest
-    (Rose sink.faults_before sink.faults_after)
 
 pub returns-in_default-clause-reads : goal.returns-in_default-clause-reads
 returns-in_default-clause-reads g c =
@@ -70,8 +68,7 @@ returns-clause-meets g c read rest stands =
     let out = sink_run g.K.Sink.took g.K.Sink.faults c.with_crew.new.sink c.print_verdict.new.out in
     let old = seen (λ b. (goal.Probe-dyn g (b.vtable, b.value)).life b.value) c.args.audience.now in
     let now = seen (λ b. (goal.Probe-dyn g (b.vtable, b.value)).life b.value) c.with_crew.new.audience in
-    let printed = subst (λ reports. Meets (outcome_by (Ok c.in-Ok-checked.verdict) reports) (Unit {0}) ⊥
-    (Rose out.faults_before out.faults_after) out.before out.after c.print_verdict.result)
+    let printed = subst (λ reports. Meets (outcome_by (Ok c.in-Ok-checked.verdict) reports) (Unit {0}) ⊥ out c.print_verdict.result)
     (c.reports.ensures ∙ c.in-Ok-finish.ensures.left) c.print_verdict.ensures.meets in
     met-verdict run.kind run.profile run.frames read stands shelf sink old now c.in-Ok.checked c.in-Ok.ensures.given
     c.in-Ok-checked.verdict rest out.after out.faults_after c.print_verdict.result c.in-Ok-checked.is printed

@@ -17,8 +17,8 @@ returns-in-Ok-clause-meets g c =
     let last = (g.S.Slots.sees c.replay_by_crew.new.shelf).faults in
     let out = sink_run g.K.Sink.took g.K.Sink.faults c.args.out.now c.replay_by_crew.new.out in
     let begun = c.in-Ok.ensures.begun in
-    meets-told replayed_by begun c.in-Ok.ensures.run (Rose mid last) (Rose first last) (Rose out.faults_before out.faults_after)
-    out.before out.after c.replay_by_crew.result (rose-before first mid last c.in-Ok.ensures.traffic.counted)
+    meets-told replayed_by begun c.in-Ok.ensures.run (Rose mid last) (Rose first last) out
+    c.replay_by_crew.result (rose-before first mid last c.in-Ok.ensures.traffic.counted)
     (c.replay_by_crew.ensures.meets begun.read (rest begun) begun.gave)
 
 pub returns-in-Ok-clause-asked : goal.returns-in-Ok-clause-asked
@@ -35,7 +35,7 @@ returns-in-Err-clause-meets g c =
     rw c.bad_run_answer.ensures
     (meets-end (replayed_by (known_bytes first name)) (λ why. refl) (known_bytes first name) (KnowsBytes first (name
     ∷ [])) (Rose first.faults last.faults)
-    (Rose out.faults_before out.faults_after) out.before c.in-Err.end (if-refused first name c.in-Err.end read.refused) read.traffic.cause
+    out.before out.faults_before out.faults_after c.in-Err.end (if-refused first name c.in-Err.end read.refused) read.traffic.cause
     read.writes_nothing)
 
 pub returns-in-Ok-clause-earlier : goal.returns-in-Ok-clause-earlier

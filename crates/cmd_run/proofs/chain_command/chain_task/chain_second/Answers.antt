@@ -1,11 +1,13 @@
 use Rattle.std.proofs.Common.{[], ◌∷◌}
 use Rattle.std.specs.Option.{unwrap_or}
+use Rattle.det_io.proofs.Counts.{rose-before}
 use Rattle.det_io.proofs.Opening.{asks-then-prefix}
 use Rattle.cli_answers.specs.Outcome.{known_bytes}
 use Rattle.cli_answers.proofs.AnswerMeets.{meets-no-memory}
 use Rattle.run_setup.specs.Setup.{setup_of}
 use Rattle.run_setup.proofs.Keeping.{keeps-behind}
-use Rattle.cmd_run.proofs.lemmas.record_command.Meeting.{rose-later, meets-as}
+use Rattle.run_setup.proofs.Meeting.{meets-as}
+use Rattle.cmd_run.proofs.lemmas.record_command.Recorded.{ends-record}
 use Rattle.cmd_run.proofs.lemmas.record_command.ByManifest.{still-told, asked-manifest, asked-both}
 use Rattle.cmd_run.specs.chain_command.Clients.{Client}
 use Rattle.cmd_run.proofs.lemmas.chain_command.Second.{by-told, met-end}
@@ -16,7 +18,7 @@ returns-in-Err-clause-meets g c =
     let task = c.args.task.now in
     let client : Client = record { kind = c.args.first.run.kind; profile = c.args.first.run.profile } in
     rw c.from.ensures (met-end task.strict (g.S.Slots.sees c.args.shelf.now) task.second.now task.stimulus.now (unwrap_or task.seed 0)
-    client _ _ _ c.in-Err.end c.in-Err.ensures.refused c.in-Err.ensures.traffic.cause c.in-Err.ensures.writes_nothing)
+    client _ _ _ _ c.in-Err.end c.in-Err.ensures.refused c.in-Err.ensures.traffic.cause c.in-Err.ensures.writes_nothing)
 
 pub returns-in-Err-clause-judged : goal.returns-in-Err-clause-judged
 returns-in-Err-clause-judged g c = λ is_known.
@@ -26,7 +28,7 @@ returns-in-Err-clause-judged g c = λ is_known.
     c.read_setup.ensures.asked
 
 pub returns-in_default-clause-meets : goal.returns-in_default-clause-meets
-returns-in_default-clause-meets g c = meets-no-memory _ _ _ _ _
+returns-in_default-clause-meets g c = meets-no-memory _ _ _ _ _ _
 
 pub returns-in_default-clause-judged : goal.returns-in_default-clause-judged
 returns-in_default-clause-judged g c = λ is_known.
@@ -45,11 +47,14 @@ returns-clause-meets g c =
     let is = c.in-Ok.ensures.manifest in
     let holds = c.read_setup.ensures.holds in
     let run = c.in-Ok-plan_run.second.run in
-    meets-as _ _ _ _ _ _ _ _ _ _
+    meets-as _ _ _ _ _ _ _ _
     (still-told task.strict first task.second.now task.stimulus.now setup is mid holds)
     (by-told task.strict first task.second.now task.stimulus.now (unwrap_or task.seed 0) client setup is mid run.kind run.profile
     holds c.in-Ok-plan_run.ensures.kind c.in-Ok-plan_run.ensures.profile)
-    (rose-later _ _ _ c.read_setup.ensures.traffic.counted) c.chain_named_stimulus.ensures.meets
+    (rose-before _ _ _ c.read_setup.ensures.traffic.counted) c.chain_named_stimulus.ensures.meets
+
+pub returns-clause-ends : goal.returns-clause-ends
+returns-clause-ends g c = ends-record _ c.chain_named_stimulus.ensures.ends
 
 pub returns-clause-asked : goal.returns-clause-asked
 returns-clause-asked g c =

@@ -3,15 +3,15 @@ use Rattle.std.specs.Prelude.{IsSome}
 use Rattle.det_io.specs.Count.{Rose}
 use Rattle.det_io.specs.StdSink.{NoBytesKnown}
 use Rattle.det_io.specs.Traffic.{SinkRun, shelf_run, sink_run}
-use Rattle.det_io.proofs.Counts.{rose-none}
+use Rattle.det_io.proofs.Counts.{rose-none, rose-before}
 use Rattle.det_io.proofs.Opening.{asks-all, asks-then-kept, opens-left}
 use Rattle.cli_answers.specs.Outcome.{known_bytes}
 use Rattle.cli_answers.proofs.Keeping.{keeps-stay, keeps-opens, keeps-read}
 use Rattle.cli_answers.proofs.AnswerMeets.{meets-unopened}
 use Rattle.cli_answers.proofs.KnownBytes.{held}
-use Rattle.cmd_run.proofs.lemmas.record_command.Meeting.{rose-later}
+use Rattle.run_setup.proofs.Meeting.{meets-unchanged}
 use Rattle.cmd_run.specs.chain_command.Clients.{Client}
-use Rattle.cmd_run.proofs.lemmas.chain_command.Chained.{met-by-kinds, reads-by-kinds, met-none}
+use Rattle.cmd_run.proofs.lemmas.chain_command.Chained.{met-by-kinds, reads-by-kinds}
 use Rattle.cmd_run.proofs.chain_command.over_stimulus.chain_named_stimulus.Goals as goal
 
 -- the first record, which nobody takes
@@ -20,7 +20,7 @@ untaken = record { before = NoBytesKnown; after = NoBytesKnown; faults_before = 
 
 pub returns-in-Err-clause-meets : goal.returns-in-Err-clause-meets
 returns-in-Err-clause-meets g c =
-    rw c.from.ensures (meets-unopened _ _ _ _ _ _ c.in-Err.ensures.cause c.in-Err.ensures.writes_nothing)
+    rw c.from.ensures (meets-unopened _ _ _ _ _ _ _ c.in-Err.ensures.cause c.in-Err.ensures.writes_nothing)
 
 pub returns-in-Ok-with_two_crews-clause-meets : goal.returns-in-Ok-with_two_crews-clause-meets
 returns-in-Ok-with_two_crews-clause-meets g c =
@@ -32,8 +32,8 @@ returns-in-Ok-with_two_crews-clause-meets g c =
     let shelf = shelf_run g.S.Slots.sees g.S.Slots.stays c.open_input.new.self c.with_two_crews.new.shelf in
     let out = sink_run g.K.Sink.took g.K.Sink.faults c.args.out.now c.with_two_crews.new.second_sink in
     met-by-kinds (known_bytes first name) c.in-Ok.slot shelf untaken out (IsSome (first.holds name)) (Rose first.faults shelf.last.faults)
-    (λ t. opens-left (known_bytes first name) opened.opens (held (first.holds name) t)) (rose-none 0) (rose-later _ _ _ opened.counted)
-    client behind c.in-Ok-with_two_crews.chained c.in-Ok-with_two_crews.ensures.given c.answer_of.result c.answer_of.ensures.is
+    (λ t. opens-left (known_bytes first name) opened.opens (held (first.holds name) t)) (rose-none 0) (rose-before _ _ _ opened.counted)
+    client behind c.in-Ok-with_two_crews.chained c.in-Ok-with_two_crews.ensures.given c.stimulus_answer.result c.stimulus_answer.ensures.is
 
 pub returns-in-Ok-with_two_crews-clause-asked : goal.returns-in-Ok-with_two_crews-clause-asked
 returns-in-Ok-with_two_crews-clause-asked g c =
@@ -47,7 +47,7 @@ returns-in-Ok-with_two_crews-clause-asked g c =
 
 pub returns-in-Err-with_two_crews-clause-meets : goal.returns-in-Err-with_two_crews-clause-meets
 returns-in-Err-with_two_crews-clause-meets g c =
-    met-none _ _ _ _ _ _ (ap g.K.Sink.took c.in-Err-with_two_crews.ensures.second_sink)
+    meets-unchanged _ _ _ _ (ap g.K.Sink.took c.in-Err-with_two_crews.ensures.second_sink)
 
 pub returns-in-Err-clause-earlier : goal.returns-in-Err-clause-earlier
 returns-in-Err-clause-earlier g c = keeps-stay c.in-Err.ensures.slots

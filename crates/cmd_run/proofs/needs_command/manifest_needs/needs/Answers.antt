@@ -18,7 +18,7 @@ pub returns-in-Err-clause-meets : goal.returns-in-Err-clause-meets
 returns-in-Err-clause-meets g c =
     let bytes = known_bytes (g.S.Slots.sees c.args.shelf.now) c.args.name.now in
     rw c.from.ensures
-    (meets-end needs_from (λ why. refl) c.args.strict bytes _ _ _ _ c.in-Err.end c.in-Err.ensures.refused
+    (meets-end needs_from (λ why. refl) c.args.strict bytes _ _ _ _ _ c.in-Err.end c.in-Err.ensures.refused
     c.in-Err.ensures.traffic.cause c.in-Err.ensures.writes_nothing)
 
 pub returns-in-Err-clause-ends : goal.returns-in-Err-clause-ends
@@ -26,7 +26,7 @@ returns-in-Err-clause-ends g c = rw c.from.ensures (can-end c.in-Err.end needs_w
 
 pub returns-in-Ok-write_all-clause-meets : goal.returns-in-Ok-write_all-clause-meets
 returns-in-Ok-write_all-clause-meets g c =
-    meets-whole _ _ _ _ _ _ _ c.deref.result.now (λ e. cc) (λ e. cc)
+    meets-whole _ _ _ _ _ c.deref.result.now (λ e. cc) (λ e. cc)
     (λ is_known. ap needs_from (c.in-Ok.ensures.manifest is_known) ∙ ap text_outcome (sym (c.deref.ensures.value
     ∙ c.in-Ok-needs_text.ensures)))
     c.in-Ok-write_all.ensures.all

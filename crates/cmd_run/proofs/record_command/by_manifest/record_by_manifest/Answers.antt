@@ -1,12 +1,13 @@
 use Rattle.std.proofs.Common.{[], ◌∷◌, refl}
+use Rattle.det_io.proofs.Counts.{rose-before}
 use Rattle.det_io.proofs.Opening.{asks-then-prefix}
 use Rattle.cli_answers.specs.Outcome.{known_bytes}
 use Rattle.cli_answers.proofs.AnswerMeets.{meets-no-memory}
 use Rattle.run_setup.specs.Setup.{setup_of}
 use Rattle.run_setup.proofs.Ending.{can-end}
 use Rattle.run_setup.proofs.Keeping.{keeps-behind}
+use Rattle.run_setup.proofs.Meeting.{meets-as}
 use Rattle.cmd_run.specs.record_command.Outcomes.{record_work}
-use Rattle.cmd_run.proofs.lemmas.record_command.Meeting.{rose-later, meets-as}
 use Rattle.cmd_run.proofs.lemmas.record_command.ByManifest.{by-told, still-told, met-end, asked-manifest, asked-both}
 use Rattle.cmd_run.proofs.lemmas.record_command.Recorded.{ends-record}
 use Rattle.cmd_run.proofs.record_command.by_manifest.record_by_manifest.Goals as goal
@@ -14,7 +15,7 @@ use Rattle.cmd_run.proofs.record_command.by_manifest.record_by_manifest.Goals as
 pub returns-in-Err-clause-meets : goal.returns-in-Err-clause-meets
 returns-in-Err-clause-meets g c =
     let task = c.args.task.now in
-    rw c.from.ensures (met-end task.strict (g.S.Slots.sees c.args.shelf.now) task.manifest.now task.stimulus.now task.seed _ _ _
+    rw c.from.ensures (met-end task.strict (g.S.Slots.sees c.args.shelf.now) task.manifest.now task.stimulus.now task.seed _ _ _ _
     c.in-Err.end c.in-Err.ensures.refused c.in-Err.ensures.traffic.cause c.in-Err.ensures.writes_nothing)
 
 pub returns-in-Err-clause-ends : goal.returns-in-Err-clause-ends
@@ -33,7 +34,7 @@ returns-in_default-clause-judged g c = λ is_known.
     (setup_of c.args.task.now.strict (known_bytes first c.args.task.now.manifest.now)) c.read_setup.ensures.asked
 
 pub returns-in_default-clause-meets : goal.returns-in_default-clause-meets
-returns-in_default-clause-meets g c = meets-no-memory _ _ _ _ _
+returns-in_default-clause-meets g c = meets-no-memory _ _ _ _ _ _
 
 pub record_named_stimulus-requires-clause-good : goal.record_named_stimulus-requires-clause-good
 record_named_stimulus-requires-clause-good g c κs lives = c.in-Ok-plan_run.ensures.good
@@ -49,11 +50,11 @@ returns-clause-meets g c =
     let task = c.args.task.now in
     let setup = c.in-Ok.setup in
     let run = c.in-Ok-plan_run.client.run in
-    meets-as _ _ _ _ _ _ _ _ _ _
+    meets-as _ _ _ _ _ _ _ _
     (still-told task.strict first task.manifest.now task.stimulus.now setup is mid c.read_setup.ensures.holds)
     (by-told task.strict first task.manifest.now task.stimulus.now setup is mid task.seed run.kind run.profile
     c.read_setup.ensures.holds c.in-Ok-plan_run.ensures.kind c.in-Ok-plan_run.ensures.profile)
-    (rose-later _ _ _ c.read_setup.ensures.traffic.counted) c.record_named_stimulus.ensures.meets
+    (rose-before _ _ _ c.read_setup.ensures.traffic.counted) c.record_named_stimulus.ensures.meets
 
 pub returns-clause-asked : goal.returns-clause-asked
 returns-clause-asked g c =

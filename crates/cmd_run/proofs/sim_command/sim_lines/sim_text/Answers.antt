@@ -11,12 +11,12 @@ summarize_run-requires-clause-whole g c κs lives =
 
 pub returns-clause-text : goal.returns-clause-text
 returns-clause-text g c =
-    text-is c.args.number c.in_ok-profile.profile c.in_ok-profile.ensures (λ lines. lines.items) c.lines_of.result _
+    text-is c.args.number c.in_ok-profile.profile c.in_ok-profile.ensures (λ lines. lines.items) c.sim_output_lines.result _
     c.in_ok-stimulus.stimulus _
     c.in_ok-summary.summary c.in_ok-stimulus.ensures c.in_ok-summary.ensures.summary
-    (c.reports.ensures ∙ c.in_ok-finish.ensures.left ∙ c.in_ok-summary.ensures.reports) c.lines_of.ensures
+    (c.reports.ensures ∙ c.in_ok-finish.ensures.left ∙ c.in_ok-summary.ensures.reports) c.sim_output_lines.ensures
 
 pub returns-clause-saw : goal.returns-clause-saw
 returns-clause-saw g c =
-    saw-all c.lines_of.result c.args.number c.in_ok-profile.profile c.in_ok-profile.ensures c.in_ok-stimulus.stimulus
+    saw-all c.sim_output_lines.result c.args.number c.in_ok-profile.profile c.in_ok-profile.ensures c.in_ok-stimulus.stimulus
     c.in_ok-stimulus.ensures _ _ _ c.in_ok-summary.ensures.reports c.in_ok-finish.ensures.left c.finish.ensures.none

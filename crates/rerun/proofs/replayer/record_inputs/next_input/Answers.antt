@@ -11,7 +11,7 @@ use Rattle.record_reader.proofs.lemmas.item_reader.Passing.{passed-on}
 use Rattle.record_reader.specs.Frames.{RoomFell, slot_of, room}
 use Rattle.rerun.specs.replayer.NextInput.{HasGiven, ReadsOn, InputIs}
 use Rattle.rerun.proofs.lemmas.replayer.Giving.{given-frame, then-skipped, then-input, then-no-memory, then-all, then-stopped}
-use Rattle.rerun.proofs.lemmas.replayer.Running.{none-of}
+use Rattle.rerun.proofs.Reading.{none-of}
 use Rattle.rerun.proofs.replayer.record_inputs.next_input.Goals as goal
 
 pub frames-init : goal.frames-init

@@ -3,10 +3,12 @@ use Rattle.cmd_records.proofs.lemmas.record_show.Lines.{format_none_yet}
 use Rattle.cmd_records.proofs.lemmas.record_show.Taken.{watched-none}
 use Rattle.cmd_records.proofs.record_show.printer.Printer.new.Goals as goal
 
-pub returns : goal.returns
-returns c audience = record {
+pub returns-clause-new : goal.returns-clause-new
+returns-clause-new c audience = record {
   part_is = refl;
-  headed = format_none_yet;
+  headed = tt;
+  format = format_none_yet;
+  has_begun = refl;
   cycles = refl;
   watched = watched-none c.args.part audience;
 }

@@ -16,20 +16,20 @@ returns-then-is_some-clause-needed g c first given slot h =
 
 pub returns-in_err-row-clause-row : goal.returns-in_err-row-clause-row
 returns-in_err-row-clause-row g c first given slot h =
-    passed-on (λ (r : Result (Unit {0}) Failure). ReadIs r first (g.S.Slots.sees c.next_row.new.shelf) given slot
-    (record c.args.self.now { reader = c.next_row.new.reader })) c.from_residual.result c.from_residual.ensures.1
+    passed-on (λ (r : Result (Unit {0}) Failure). ReadIs r first (g.S.Slots.sees c.next_voter_row.new.shelf) given slot
+    (record c.args.self.now { reader = c.next_voter_row.new.reader })) c.from_residual.result c.from_residual.ensures.1
     (c.in_err-row.ensures.row first given slot (step-behind c.args.self.now.left (search rules) h))
 
 pub returns-in_err-row-clause-needed : goal.returns-in_err-row-clause-needed
 returns-in_err-row-clause-needed g c first given slot h =
-    c.next_row.ensures.needed first given slot (step-behind c.args.self.now.left (search rules) h)
+    c.next_voter_row.ensures.needed first given slot (step-behind c.args.self.now.left (search rules) h)
 
 pub returns-clause-row : goal.returns-clause-row
 returns-clause-row g c first given slot h =
-    step-read c.in_ok-row.row first (g.S.Slots.sees c.next_row.new.shelf) given slot
-    (record c.args.self.now { reader = c.next_row.new.reader; row = Some c.in_ok-row.row }) (search rules) (search rules)
+    step-read c.in_ok-row.row first (g.S.Slots.sees c.next_voter_row.new.shelf) given slot
+    (record c.args.self.now { reader = c.next_voter_row.new.reader; row = Some c.in_ok-row.row }) (search rules) (search rules)
     (c.in_ok-row.ensures.row first given slot (step-behind c.args.self.now.left (search rules) h))
 
 pub returns-clause-needed : goal.returns-clause-needed
 returns-clause-needed g c first given slot h =
-    c.next_row.ensures.needed first given slot (step-behind c.args.self.now.left (search rules) h)
+    c.next_voter_row.ensures.needed first given slot (step-behind c.args.self.now.left (search rules) h)

@@ -16,8 +16,8 @@ returns-clause-writes g c place x h =
     let holds : HoldsAt place v.reader c.args.item.view x =
     subst (λ (w : Voter). HoldsAt place w.reader c.args.item.view x) is (h.holds v) in
     let s = spelled-at place v.reader c.args.item.view x c.bytes.result.now holds (c.bytes.ensures x holds.holds) few
-    c.write_bytes.ensures.bytes in (
-      subst (λ (bytes : List ℕ). Writes c.write_bytes.result bytes
-          (sink_run g.K.Sink.took g.K.Sink.faults c.args.sink.now c.write_bytes.new.sink)) s.1 c.write_bytes.ensures.writes,
+    c.write_majority_row.ensures.bytes in (
+      subst (λ (bytes : List ℕ). Writes c.write_majority_row.result bytes
+          (sink_run g.K.Sink.took g.K.Sink.faults c.args.sink.now c.write_majority_row.new.sink)) s.1 c.write_majority_row.ensures.writes,
       s.0,
     )

@@ -15,22 +15,22 @@ invariant_of-self-2 c = record {
 
 pub returns-clause-reads : goal.returns-clause-reads
 returns-clause-reads c = child-reads c.args.self.now.scripts c.args.self.now.children.items c.args.self.now.knows_asked
-    c.args.self.now.asked.items c.args.self.now.faults c.args.child c.copy_rest-n.result c.index-running.result.now _ c.requires
-    c.index-running.ensures (rw c.as_slice.ensures.items at c.copy_rest-n.ensures.front)
+    c.args.self.now.asked.items c.args.self.now.faults c.args.child c.copy_script_rest-n.result c.index-running.result.now _ c.requires
+    c.index-running.ensures (rw c.as_slice.ensures.items at c.copy_script_rest-n.ensures.front)
 
 pub returns-clause-end : goal.returns-clause-end
-returns-clause-end c = child-end c.args.self.now.scripts c.args.self.now.children.items c.args.child c.copy_rest-n.result
+returns-clause-end c = child-end c.args.self.now.scripts c.args.self.now.children.items c.args.child c.copy_script_rest-n.result
     (length c.args.buf.now) c.index-running.result.now c.requires c.index-running.ensures
-    (rw c.as_slice.ensures.items at c.copy_rest-n.ensures.count)
+    (rw c.as_slice.ensures.items at c.copy_script_rest-n.ensures.count)
 
 pub returns-clause-done : goal.returns-clause-done
-returns-clause-done c = child-done c.args.self.now.scripts c.args.self.now.children.items c.args.child c.copy_rest-n.result
+returns-clause-done c = child-done c.args.self.now.scripts c.args.self.now.children.items c.args.child c.copy_script_rest-n.result
     (length c.args.buf.now) c.index-running.result.now c.requires c.index-running.ensures
-    (rw c.as_slice.ensures.items at c.copy_rest-n.ensures.count)
+    (rw c.as_slice.ensures.items at c.copy_script_rest-n.ensures.count)
 
 pub returns-clause-amount : goal.returns-clause-amount
 returns-clause-amount c =
-    let count = rw c.as_slice.ensures.items at c.copy_rest-n.ensures.count in
+    let count = rw c.as_slice.ensures.items at c.copy_script_rest-n.ensures.count in
     count ∙ ap (λ rest. min (length c.args.buf.now) (length rest))
     (child-rest c.args.self.now.scripts c.args.self.now.children.items c.args.child c.index-running.result.now c.requires
     c.index-running.ensures)

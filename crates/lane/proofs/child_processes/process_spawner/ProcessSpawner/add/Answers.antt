@@ -8,5 +8,5 @@ returns-clause-starts g c =
     let count : c.in_ok-number.number ≡ length c.args.self.now.finished.items =
     (let each = c.args.self.now.one_child_each in let ok = c.args.self.now.children.ok in let done = c.args.self.now.finished.ok in
     search (rules, c.len.ensures, c.try_from.ensures, c.ok.ensures, c.in_ok-number.ensures, c.in_ok-number.is)) in
-    rw (count, c.keep.ensures, c.reserve-4.ensures.items)
-    (opaque_state-starts c.args.self.now.finished.items c.args.self.now.faults (words_of c.args.words.now))
+    rw (count, c.keep.ensures, c.reserve-4.ensures.items, c.reserve-5.ensures.items)
+    (opaque_state-starts c.args.self.now.finished.items c.args.self.now.lost.items c.args.self.now.faults (words_of c.args.words.now))

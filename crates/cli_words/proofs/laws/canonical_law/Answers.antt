@@ -1,5 +1,0 @@
-use Rattle.cli_words.proofs.Canon.{canonical_law}
-use Rattle.cli_words.proofs.laws.canonical_law.Goals as goal
-
-pub returns : goal.returns
-returns c = canonical_law

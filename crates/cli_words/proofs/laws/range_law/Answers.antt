@@ -1,5 +1,0 @@
-use Rattle.cli_words.proofs.Ranging.{in_range}
-use Rattle.cli_words.proofs.laws.range_law.Goals as goal
-
-pub returns : goal.returns
-returns c = in_range

@@ -1,6 +1,0 @@
-use Rattle.det_cli.proofs.Concluding.{concludes}
-use Rattle.det_cli.proofs.laws.status_law.Goals as goal
-
-pub returns : goal.returns
-returns g c words first last out out_after err err_after seeing stayed status promised =
-    concludes words first last _ _ _ _ _ _ seeing stayed status promised

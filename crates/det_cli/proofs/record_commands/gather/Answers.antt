@@ -1,4 +1,0 @@
-use Rattle.det_cli.proofs.record_commands.gather.Goals as goal
-
-pub returns-clause-runs : goal.returns-clause-runs
-returns-clause-runs g c audience = rw (c.into_front.ensures.front, ← c.new-buffer.ensures) (c.write_record-answer.ensures audience)
