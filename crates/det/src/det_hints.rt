@@ -4,7 +4,7 @@ use det_cli::{Answer, Status};
 use det_io::{DirShelf, Sink, write_all};
 use hints_on_files::command_hint;
 use hints_on_words::{
-    UnreadFile, can_reread, help_for, words_fault, write_failure, write_hint, write_words_hint,
+    can_reread, help_for, read_failure, words_fault, write_failure, write_hint, write_words_hint,
 };
 use std::alloc::Global;
 use std::io::Error;
@@ -34,7 +34,7 @@ fn hint_on_read<E: Sink>(
     let Some(command) = read_words(words) else {
         return;
     };
-    if let Some(unread) = UnreadFile::find(alloc, command.names.as_slice(), failed) {
+    if let Some(unread) = read_failure(alloc, command.names.as_slice(), failed) {
         write_hint(alloc, unread, err);
     }
 }

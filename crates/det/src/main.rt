@@ -5,29 +5,19 @@
 mod det_hints;
 mod terminal;
 
+use cli_answers::write_line;
+use cli_words::program_words;
 use det_cli::{Answer, Host, Status, top};
 use det_hints::{refuse_terminal, write_hints};
-use det_io::{DirShelf, Shelf, Sink, StdSink, write_all};
+use det_io::{DirShelf, Shelf, Sink, StdSink};
 use probes::{Audience, CountProbe, FirstRefusalProbe, GapProbe, Probe};
 use std::alloc::AllocError;
-use std::env;
-use std::io::{ErrorKind, IsTerminal};
+use std::io::IsTerminal;
 use std::process::ExitCode;
 use std::sync::Arc;
 use std::thread::Threads;
 use terminal::{is_forced, writes_record};
 use worker_pool::{Gate, NapGate};
-
-/// The arguments after the program's name. They are empty, which is no command, if one of them
-/// isn't UTF-8.
-fn program_words(rt: &HostRuntime) -> Result<Vec<String>, AllocError> {
-    let alloc = rt.alloc();
-    match env::args(rt) {
-        Ok(args) => args.skip(1).collect::<Vec<String>>(alloc),
-        Err(error) if error.kind() == ErrorKind::OutOfMemory => Err(AllocError),
-        Err(_) => Ok(Vec::new(alloc)),
-    }
-}
 
 /// A gate at which a run's idle threads sleep by the clock.
 fn nap_gate(rt: &HostRuntime) -> Result<Arc<NapGate<HostRuntime>>, AllocError> {
@@ -35,8 +25,8 @@ fn nap_gate(rt: &HostRuntime) -> Result<Arc<NapGate<HostRuntime>>, AllocError> {
     Ok(Arc::new(rt.alloc(), NapGate { clock })?)
 }
 
-/// `top` with the shipped probes.
-fn run<R, G, S, K, E>(
+/// Calls `top` with the shipped probes.
+fn run_with_probes<R, G, S, K, E>(
     host: &Host<'_, R, G>,
     words: &[String],
     shelf: &mut S,
@@ -61,8 +51,7 @@ where
 
 /// Reports that memory ran out before the program began, as `top` does.
 fn report_out_of_memory<E: Sink>(err: &mut E) -> ExitCode {
-    let line = Answer::OutOfMemory.line();
-    let _ = write_all(err, line.as_slice());
+    write_line(&Answer::OutOfMemory.line(), err);
     ExitCode::from(Status::OutOfMemory.number())
 }
 
@@ -85,7 +74,7 @@ fn main(rt: HostRuntime) -> ExitCode {
     };
     let mut shelf = DirShelf::new(&rt, alloc);
     let mut out = StdSink::new(rt.stdout());
-    let Ok(status) = run(&host, &words, &mut shelf, &mut out, &mut err) else {
+    let Ok(status) = run_with_probes(&host, &words, &mut shelf, &mut out, &mut err) else {
         return report_out_of_memory(&mut err);
     };
     if err.failed().is_none() {

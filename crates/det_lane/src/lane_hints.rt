@@ -1,28 +1,21 @@
 //! Hints of `det_lane`, written after the answer's line.
 use det_io::Sink;
 use hints_on_words::{
-    Excerpt, Help, WordKind, WordsFault, misplaced_word, write_failure, write_hint,
-    write_words_hint,
+    Help, WordsFault, misplaced_word, write_failure, write_hint, write_words_hint,
 };
 use lane::LaneStatus;
 use std::io::Error;
 
-/// The kinds of its arguments.
-const KINDS: [WordKind; 4] = [
-    WordKind::Name("PROGRAM"),
-    WordKind::Copies("COPIES"),
-    WordKind::Name("MANIFEST"),
-    WordKind::Name("STIM"),
-];
+/// Its arguments, by their names in the usage.
+const PLACES: [&str; 4] = ["PROGRAM", "COPIES", "MANIFEST", "STIM"];
 
 /// Why arguments are no lane. None if they are one.
 fn words_fault(words: &[String]) -> Option<WordsFault<'_>> {
-    let fault = misplaced_word(&KINDS, words);
+    let fault = misplaced_word(&PLACES, words);
     if fault.is_some() {
         return fault;
     }
-    let word = Excerpt::from_text(words.get(4)?.as_str());
-    Some(WordsFault::At { number: 5, word })
+    Some(WordsFault::at(4, words.get(4)?.as_str()))
 }
 
 /// Writes the hints on arguments that are no lane.

@@ -4,30 +4,17 @@
 
 mod lane_hints;
 
-use det_io::{Sink, StdSink, write_all};
+use cli_answers::write_line;
+use cli_words::program_words;
+use det_io::{Sink, StdSink};
 use lane::child_processes::{ChildShelf, ProcessSpawner};
 use lane::{LaneAnswer, LaneStatus, lane_top};
 use lane_hints::write_hints;
-use std::alloc::AllocError;
-use std::env;
-use std::io::ErrorKind;
 use std::process::ExitCode;
-
-/// The arguments after the program's name. They are empty, which is no command, if one of them
-/// isn't UTF-8.
-fn program_words(rt: &HostRuntime) -> Result<Vec<String>, AllocError> {
-    let alloc = rt.alloc();
-    match env::args(rt) {
-        Ok(args) => args.skip(1).collect::<Vec<String>>(alloc),
-        Err(error) if error.kind() == ErrorKind::OutOfMemory => Err(AllocError),
-        Err(_) => Ok(Vec::new(alloc)),
-    }
-}
 
 /// Reports that memory ran out before the program began, as `lane_top` does.
 fn report_out_of_memory<E: Sink>(err: &mut E) -> ExitCode {
-    let line = LaneAnswer::OutOfMemory.line();
-    let _ = write_all(err, line.as_slice());
+    write_line(&LaneAnswer::OutOfMemory.line(), err);
     ExitCode::from(LaneStatus::OutOfMemory.number())
 }
 

@@ -5,29 +5,16 @@
 mod twin_hints;
 mod twins_fault;
 
-use det_io::{DirShelf, Sink, StdSink, write_all};
-use std::alloc::AllocError;
-use std::env;
-use std::io::ErrorKind;
+use cli_answers::write_line;
+use cli_words::program_words;
+use det_io::{DirShelf, Sink, StdSink};
 use std::process::ExitCode;
 use twin_cli::{TwinAnswer, TwinStatus, twin_top};
 use twin_hints::write_hints;
 
-/// The arguments after the program's name. They are empty, which is no command, if one of them
-/// isn't UTF-8.
-fn program_words(rt: &HostRuntime) -> Result<Vec<String>, AllocError> {
-    let alloc = rt.alloc();
-    match env::args(rt) {
-        Ok(args) => args.skip(1).collect::<Vec<String>>(alloc),
-        Err(error) if error.kind() == ErrorKind::OutOfMemory => Err(AllocError),
-        Err(_) => Ok(Vec::new(alloc)),
-    }
-}
-
 /// Reports that memory ran out before the program began, as `twin_top` does.
 fn report_out_of_memory<E: Sink>(err: &mut E) -> ExitCode {
-    let line = TwinAnswer::OutOfMemory.line();
-    let _ = write_all(err, line.as_slice());
+    write_line(&TwinAnswer::OutOfMemory.line(), err);
     ExitCode::from(TwinStatus::OutOfMemory.number())
 }
 

@@ -1,8 +1,8 @@
 //! Hints of `det_twin`, written after the answer's line.
 use crate::twins_fault::words_fault;
 use det_io::{DirShelf, Shelf, Sink};
-use hints_on_files::{Hint, manifest_events, manifest_hint, short_stimulus_hint};
-use hints_on_words::{Help, UnreadFile, can_reread, write_failure, write_hint, write_words_hint};
+use hints_on_files::{Hint, manifest_events, manifest_hint, stimulus_hint};
+use hints_on_words::{Help, can_reread, read_failure, write_failure, write_hint, write_words_hint};
 use std::alloc::Global;
 use std::io::Error;
 use twin_cli::{TwinCommand, TwinStatus, Twins};
@@ -29,7 +29,7 @@ fn file_hint<S: Shelf>(
         }
         TwinStatus::BadStimulus => {
             let events = manifest_events(alloc, twins.manifest, shelf)?;
-            short_stimulus_hint(alloc, twins.stimulus, events, shelf)
+            stimulus_hint(alloc, twins.stimulus, events, true, shelf)
         }
         _ => None,
     }
@@ -46,7 +46,7 @@ fn hint_on_twins<E: Sink>(
     let alloc = rt.alloc();
     let names = [twins.manifest, twins.stimulus];
     if let TwinStatus::ReadFault = status {
-        if let Some(unread) = UnreadFile::find(alloc, &names, unread) {
+        if let Some(unread) = read_failure(alloc, &names, unread) {
             write_hint(alloc, unread, err);
         }
         return;

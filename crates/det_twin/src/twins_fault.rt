@@ -1,13 +1,9 @@
 //! Finds the first argument of `det_twin` at which the arguments stop being twins.
 use cli_words::number_of;
-use hints_on_words::{Excerpt, WordKind, WordsFault, misplaced_word};
+use hints_on_words::{WordsFault, misplaced_word};
 
-/// The kinds of its arguments before the options.
-const KINDS: [WordKind; 3] = [
-    WordKind::Copies("COPIES"),
-    WordKind::Name("MANIFEST"),
-    WordKind::Name("STIM"),
-];
+/// Its arguments before the options, by their names in the usage.
+const PLACES: [&str; 3] = ["COPIES", "MANIFEST", "STIM"];
 
 /// The options that were read so far, and how many arguments were read.
 #[derive(Clone, Copy)]
@@ -24,19 +20,9 @@ fn flip_number<'a>(
     what: &'static str,
     most: u64,
 ) -> Result<(), WordsFault<'a>> {
-    let taker = "--flip";
-    let Some(word) = words.get(place) else {
-        return Err(WordsFault::MissingAfter { what, taker });
-    };
-    match number_of(word.as_str()) {
-        Some(number) if number <= most => Ok(()),
-        _ => Err(WordsFault::OutOfRange {
-            number: place.saturating_add(1),
-            word: Excerpt::from_text(word.as_str()),
-            taker,
-            least: 0,
-            most,
-        }),
+    match words.get(place) {
+        Some(word) => WordsFault::check_number(place, word.as_str(), "--flip", (0, most)),
+        None => Err(WordsFault::MissingAfter(what, "--flip")),
     }
 }
 
@@ -71,23 +57,20 @@ impl OptionsSoFar {
                     ..self
                 })
             }
-            other => Err(WordsFault::At {
-                number: place.saturating_add(1),
-                word: Excerpt::from_text(other),
-            }),
+            other => Err(WordsFault::at(place, other)),
         }
     }
 }
 
 /// Why arguments are no twins. None if they are.
 pub(crate) fn words_fault(words: &[String]) -> Option<WordsFault<'_>> {
-    let fault = misplaced_word(&KINDS, words);
+    let fault = misplaced_word(&PLACES, words);
     if fault.is_some() {
         return fault;
     }
     let copies = number_of(words.first()?.as_str())?;
     let mut so_far = OptionsSoFar {
-        words: KINDS.len(),
+        words: PLACES.len(),
         strict: false,
         flip: false,
     };

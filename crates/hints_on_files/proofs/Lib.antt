@@ -1,1 +1,1 @@
-mod Parameters
+mod LeastBad

@@ -1,79 +1,67 @@
 //! Hints on manifests.
-ghost use Rattle.std.specs.Prelude.{◌≡◌, true, IfSome, IfErr};
+ghost use Rattle.std.specs.Prelude.{◌≡◌, ◌≤◌, ◌+◌, length, true, IfSome};
 ghost use Rattle.hints_on_files.specs.Kinds.{is_of_manifest};
 
 use crate::hint::Hint;
-use crate::key_hint::KeyHint;
-use crate::parameter_hint::ParameterHint;
-use crate::reread_files::read_whole_under;
-use crate::toml_line::TomlLine;
-use det_io::{Shelf, Stopped};
-use jobs::bad_param;
-use manifest::{
-    Key, MOST_BYTES, Manifest, ManifestError, ManifestFault, read_manifest, read_strict_manifest,
-};
+use crate::parameters::parameter_hint;
+use cli_answers::BadManifest;
+use det_io::{Shelf, Stopped, read_limited};
+use manifest::{Key, MOST_BYTES, ManifestFault, read_manifest};
+use run_setup::read_setup;
 use std::alloc::Global;
 
-fn fault_hint(alloc: Global, text: &[u8], fault: ManifestFault) -> Option<Hint>
-    ensures { IfSome result (λ hint. is_of_manifest hint ≡ true) }
+/// The line, counted from 1, at which bytes stop being TOML. None if they are TOML, or memory runs
+/// out.
+fn toml_fault_line(alloc: Global, bytes: &[u8]) -> Option<usize>
+    ensures first { IfSome result (λ line. 1 ≤ line) }
+    ensures last { IfSome result (λ line. line ≤ 1 + length bytes.now) }
 {
-    match fault {
-        ManifestFault::TooLong => Some(Hint::LongManifest),
-        ManifestFault::NotToml => Some(Hint::Toml(TomlLine::find(alloc, text)?)),
-        ManifestFault::Missing(key)
-        | ManifestFault::WrongKind(key)
-        | ManifestFault::OutOfRange(key) => Some(Hint::Key(KeyHint { key })),
-        ManifestFault::UnknownJob => Some(Hint::Key(KeyHint { key: Key::Job })),
-        ManifestFault::UnknownKey(_) | ManifestFault::DuplicateEvent(_) => None,
-    }
-}
-
-/// The hint on the parameter that the job of a manifest refuses.
-fn refused_parameter(manifest: &Manifest) -> Option<Hint>
-    ensures { IfSome result (λ hint. is_of_manifest hint ≡ true) }
-{
-    let job = manifest.kind();
-    let events = manifest.events().len() as u16;
-    let index = bad_param(job, manifest.params(), events)?;
-    let parameter = ParameterHint::new(job, manifest.params(), index);
-    Some(Hint::Parameter(parameter))
-}
-
-/// Checks the text of a manifest. The error is the hint on why it is refused, if there is one.
-fn check_manifest(alloc: Global, text: &[u8], strict: bool) -> Result<(), Option<Hint>>
-    ensures { IfErr result (λ h. IfSome h (λ hint. is_of_manifest hint ≡ true)) }
-{
-    let read = if strict {
-        read_strict_manifest(alloc, text)
-    } else {
-        read_manifest(alloc, text)
-    };
-    match read {
-        Ok(manifest) => match refused_parameter(&manifest) {
-            None => Ok(()),
-            hint => Err(hint),
+    let place = match std::str::from_utf8(bytes) {
+        Err(error) => error.valid_up_to(),
+        Ok(text) => match toml::table_from_str(alloc, text) {
+            Ok(_) => return None,
+            Err(error) => error.span()?.start,
         },
-        Err(ManifestError::Fault(fault)) => Err(fault_hint(alloc, text, fault)),
-        Err(ManifestError::OutOfMemory) => Err(None),
-    }
-}
-
-fn check_manifests<S: Shelf>(
-    alloc: Global,
-    names: &[&str],
-    strict: bool,
-    shelf: &mut S,
-) -> Result<(), Option<Hint>>
-    ensures { IfErr result (λ h. IfSome h (λ hint. is_of_manifest hint ≡ true)) }
-{
-    for name in names {
-        match read_whole_under(alloc, *name, MOST_BYTES, shelf) {
-            Ok(text) => check_manifest(alloc, &text, strict)?,
-            Err(Stopped::Refused(_)) => return Err(Some(Hint::LongManifest)),
-            Err(Stopped::Failed(_)) => return Err(None),
+    };
+    let mut line: usize = 1;
+    for byte in bytes.get(..place)? {
+        if *byte == b'\n' {
+            line = line.saturating_add(1);
         }
     }
-    Ok(())
+    Some(line)
+}
+
+/// The hint on the manifest under a name, which is refused for this cause. Its text is read again
+/// where the cause doesn't have the place.
+fn refusal_hint<S: Shelf>(
+    alloc: Global,
+    name: &str,
+    why: BadManifest,
+    shelf: &mut S,
+) -> Option<Hint>
+    ensures { IfSome result (λ hint. is_of_manifest hint ≡ true) }
+{
+    let slot = shelf.open_input(name).ok()?;
+    match why {
+        BadManifest::Fault(ManifestFault::TooLong) => Some(Hint::LongManifest),
+        BadManifest::Fault(ManifestFault::NotToml) => {
+            let text = read_limited(alloc, shelf, slot, MOST_BYTES).ok()?;
+            Some(Hint::Toml(toml_fault_line(alloc, &text)?))
+        }
+        BadManifest::Fault(
+            ManifestFault::Missing(key)
+            | ManifestFault::WrongKind(key)
+            | ManifestFault::OutOfRange(key),
+        ) => Some(Hint::Key(key)),
+        BadManifest::Fault(ManifestFault::UnknownJob) => Some(Hint::Key(Key::Job)),
+        BadManifest::Fault(_) => None,
+        BadManifest::Parameter(_) => {
+            let text = read_limited(alloc, shelf, slot, MOST_BYTES).ok()?;
+            let manifest = read_manifest(alloc, &text).ok()?;
+            parameter_hint(manifest.kind(), manifest.params(), manifest.events())
+        }
+    }
 }
 
 /// What is wrong with the first of these manifests that is refused.
@@ -85,8 +73,20 @@ pub fn manifest_hint<S: Shelf>(
 ) -> Option<Hint>
     ensures { IfSome result (λ hint. is_of_manifest hint ≡ true) }
 {
-    match check_manifests(alloc, names, strict, shelf) {
-        Ok(()) => None,
-        Err(hint) => hint,
+    for name in names {
+        match read_setup(alloc, *name, strict, shelf) {
+            Ok(_) => {}
+            Err(Stopped::Refused(why)) => return refusal_hint(alloc, *name, why, shelf),
+            Err(Stopped::Failed(_)) => return None,
+        }
     }
+    None
+}
+
+/// The number of events in the manifest under a name. None if it is refused or can't be read.
+pub fn manifest_events<S: Shelf>(alloc: Global, name: &str, shelf: &mut S) -> Option<u16>
+    ensures { IfSome result (λ events. events ≤ 256) }
+{
+    let manifest = read_setup(alloc, name, false, shelf).ok()?;
+    Some(manifest.events().len() as u16)
 }

@@ -10,21 +10,8 @@ const MOST: usize = 64;
 
 /// The first 64 of these bytes, and two dots if there are more. A byte that isn't a printable ASCII
 /// character is printed as `?`, so no control character reaches the terminal.
-#[derive(Clone, Copy)]
-pub struct Excerpt<'a> {
-    pub bytes: &'a [u8],
-}
-
-impl<'a> Excerpt<'a> {
-    /// The bytes of a text.
-    pub fn from_text(text: &'a str) -> Excerpt<'a>
-        ensures { result.bytes.now ≡ text.now }
-    {
-        Excerpt {
-            bytes: text.as_bytes(),
-        }
-    }
-}
+#[derive(Clone, Copy, Debug)]
+pub struct Excerpt<'a>(pub &'a [u8]);
 
 fn printable(byte: u8) -> char
     ensures { result ≡ printable byte }
@@ -35,7 +22,6 @@ fn printable(byte: u8) -> char
     }
 }
 
-/// The bytes that are printed.
 fn front(bytes: &[u8]) -> &[u8]
     ensures { result.now ≡ take 64 bytes.now }
 {
@@ -46,7 +32,6 @@ fn front(bytes: &[u8]) -> &[u8]
     }
 }
 
-/// Two dots in place of the bytes that aren't printed.
 fn dots(bytes: &[u8]) -> &'static str
     ensures { result.now ≡ dots bytes.now }
 {
@@ -54,12 +39,12 @@ fn dots(bytes: &[u8]) -> &'static str
 }
 
 impl Display for Excerpt<'_> {
-    ghost output = { λ shown. Some (excerpt_text shown.bytes.now) };
+    ghost output = { λ shown. Some (excerpt_text shown.0.now) };
 
     fn fmt<W: Write>(&self, f: &mut Formatter<W>) -> fmt::Result {
-        for byte in front(self.bytes) {
+        for byte in front(self.0) {
             f.write_char(printable(*byte))?;
         }
-        f.write_str(dots(self.bytes))
+        f.write_str(dots(self.0))
     }
 }

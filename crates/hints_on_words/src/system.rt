@@ -4,66 +4,51 @@ ghost use Rattle.std.specs.IoError.{error_kind};
 ghost use Rattle.std.specs.declared.io.ErrorKind.TheVariants.{BrokenPipe};
 
 use crate::excerpt::Excerpt;
-use crate::reason::SystemReason;
 use std::alloc::Global;
-use std::fmt::{Display, Formatter, Write};
+use std::fs;
 use std::io::{Error, ErrorKind};
 use std::rt::Files;
-use std::{fmt, fs};
 
-/// A file that couldn't be opened or read, with the system's reason.
-#[derive(Drop)]
-pub struct UnreadFile<'a> {
-    name: Excerpt<'a>,
-    reason: SystemReason,
-}
-
-impl<'a> UnreadFile<'a> {
-    /// The name whose slot failed last. `names` are in the order in which the shelf opened them.
-    /// None if no name has that slot, or memory runs out.
-    pub fn find(
-        alloc: Global,
-        names: &[&'a str],
-        failed: Option<(u32, Error)>,
-    ) -> Option<UnreadFile<'a>>
-        ensures { IsNone failed → IsNone result }
-    {
-        let (slot, error) = failed?;
-        let name = names.get(slot as usize)?;
-        Some(UnreadFile {
-            name: Excerpt::from_text(*name),
-            reason: SystemReason::from_error(alloc, error)?,
-        })
+fn before_number(text: &str) -> &str {
+    match text.split_once(" (os error ") {
+        Some((words, _)) => words,
+        None => text,
     }
 }
 
-impl Display for UnreadFile<'_> {
-    fn fmt<W: Write>(&self, f: &mut Formatter<W>) -> fmt::Result {
-        write!(f, "{}: {}", self.name, self.reason)
-    }
+/// The system's text for an error, without its number. None if memory runs out.
+fn system_reason(alloc: Global, error: Error) -> Option<String> {
+    let text = format!(in alloc; "{error}").ok()?;
+    let reason = Excerpt(before_number(text.as_str()).as_bytes());
+    format!(in alloc; "{reason}").ok()
+}
+
+/// The name whose slot failed last, with the system's reason. `names` are in the order in which the
+/// shelf opened them. None if no name has that slot, or memory runs out.
+pub fn read_failure(alloc: Global, names: &[&str], failed: Option<(u32, Error)>) -> Option<String>
+    ensures { IsNone failed → IsNone result }
+{
+    let (slot, error) = failed?;
+    let name = Excerpt(names.get(slot as usize)?.as_bytes());
+    let reason = system_reason(alloc, error)?;
+    format!(in alloc; "{name}: {reason}").ok()
 }
 
 /// Why a write failed. None if memory runs out, or for a broken pipe: the reader closed it, which
 /// is no fault of the output.
-pub fn write_failure(alloc: Global, failed: Option<Error>) -> Option<SystemReason>
+pub fn write_failure(alloc: Global, failed: Option<Error>) -> Option<String>
     ensures none { IsNone failed → IsNone result }
     ensures pipe { IfSome failed (λ error. error_kind error ≡ BrokenPipe → IsNone result) }
 {
     let error = failed?;
     match error.kind() {
         ErrorKind::BrokenPipe => None,
-        _ => SystemReason::from_error(alloc, error),
+        _ => system_reason(alloc, error),
     }
 }
 
 /// Whether all these names are regular files. Such a file can be read again, and without waiting
 /// for a writer.
 pub fn can_reread<R: Files>(rt: &R, names: &[&str]) -> bool {
-    for name in names {
-        match fs::metadata(rt, *name) {
-            Ok(found) if found.is_file() => {}
-            _ => return false,
-        }
-    }
-    true
+    names.iter().all(|name| matches!(fs::metadata(rt, *name), Ok(found) if found.is_file()))
 }

@@ -66,7 +66,7 @@ pub next_bad : (old new : StimulusParser) (error : StimulusError) (bytes : List 
     → items_to_give old.state ≡ []
     → ((tail : List ℕ) → from old (left old ++ tail) ≡ bad_at_once true) → BadIs error old new → StandsFor old bytes given
     → NextIs (Err error) new bytes given
-next_bad old new (errors.Bad fault) bytes given none nothing bad (line, some, settled, events) h =
+next_bad old new (errors.Bad fault) bytes given none nothing bad (line, some, settled, events, same) h =
     let on = resumes old bytes given none h in
     let all : (tail : List ℕ) → reading new.events (bytes ++ tail) ≡ bad_reading h.head given =
     λ tail. ap (λ e. reading e (bytes ++ tail)) events ∙ on.1 tail ∙ ap (after h.head (given ++ items_to_give old.state)) (bad tail)

@@ -96,7 +96,7 @@ line_taken old new (Err (errors.Bad fault)) l end bytes given none nothing begin
     let there = taken_there old.events (place_of old.state) (take end (left old)) l begins.short spelled in
     next_bad old new (errors.Bad fault) bytes given none nothing
     (λ tail. is_bad old.events (place_of old.state) (take end (left old)) (left old ++ tail) (drop (end + 1) (left old) ++ tail)
-    (begins.cut tail) (there ∙ takes)) bad h
+    (begins.cut tail) (there ∙ takes.0)) bad h
 line_taken old new (Err errors.OutOfMemory) l end bytes given none nothing begins spelled ((keeps, read, count), same) h =
     let on = resumes old bytes given none h in
     let rest : left new ≡ left old = λ i. drop ((read ∙ add-zero old.read) i) (keeps.pending i) in

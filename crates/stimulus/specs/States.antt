@@ -26,7 +26,7 @@ AfterLineIs (answers.Line s) state line =
     (taken (place_of state) line ≡ step [] (place_of s)) × (items_to_give s ≡ [])
 AfterLineIs (answers.Item item s) state line =
     taken (place_of state) line ≡ step (item ∷ items_to_give s) (place_of s)
-AfterLineIs answers.Bad state line = taken (place_of state) line ≡ None
+AfterLineIs (answers.Bad s) state line = (taken (place_of state) line ≡ None) × (s ≡ state)
 AfterLineIs (answers.OutOfMemory s) state line = s ≡ state
 
 -- the greatest number of lines that can have been read in a state
@@ -53,5 +53,5 @@ Counts (answers.Line s) state =
 Counts (answers.Item item s) state =
     most_lines state ≤ limit_of state → (most_lines state + 1 ≤ most_lines s)
     × (most_lines s ≤ limit_of s)
-Counts answers.Bad state = Unit {0}
+Counts (answers.Bad s) state = Unit {0}
 Counts (answers.OutOfMemory s) state = Unit {0}

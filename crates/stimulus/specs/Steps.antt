@@ -29,7 +29,7 @@ Shrinks (Err error) old new = Unit {0}
 abbrev pub BadIs : StimulusError → StimulusParser → StimulusParser → Type 0
 BadIs (errors.Bad fault) old new =
     (fault.line ≡ old.lines + 1) × (new.fault ≡ Some fault) × (new.settled ≡ true)
-    × (new.events ≡ old.events)
+    × (new.events ≡ old.events) × (new.state ≡ old.state)
 BadIs errors.OutOfMemory old new = ⊥
 
 -- what stays the same over a line
@@ -51,7 +51,7 @@ TookIs (Ok (progress.Item item)) line len old new =
     Moves len 1 old new × AfterLineIs (answers.Item item new.state) old.state line
 TookIs (Ok progress.Open) line len old new = ⊥
 TookIs (Err (errors.Bad fault)) line len old new =
-    BadIs (errors.Bad fault) old new × AfterLineIs answers.Bad old.state line
+    BadIs (errors.Bad fault) old new × AfterLineIs (answers.Bad new.state) old.state line
 TookIs (Err errors.OutOfMemory) line len old new = Moves 0 0 old new × (new.state ≡ old.state)
 
 -- `Terminate` is still to be returned

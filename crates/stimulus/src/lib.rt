@@ -1,4 +1,5 @@
-//! The stimulus: a text with the time and the samples of each cycle, read in pieces.
+//! The stimulus: a text with the time and the samples of each cycle, read line by line in pieces,
+//! or generated from a number.
 #![tactic(auto)]
 
 mod decimal;
@@ -10,7 +11,9 @@ pub mod slot_reader;
 mod state;
 mod stimulus_item;
 pub mod stimulus_laws;
+mod wanted;
 
 pub use generated_text::generate_stimulus;
 pub use parser::StimulusParser;
 pub use stimulus_item::{StimulusError, StimulusFault, StimulusItem};
+pub use wanted::Wanted;

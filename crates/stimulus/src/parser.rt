@@ -9,6 +9,7 @@ use crate::first_line::{FirstLine, first_line};
 use crate::parse_line::{Line, parse_line};
 use crate::state::{AfterLine, State, take_line};
 use crate::stimulus_item::{StimulusError, StimulusFault, StimulusItem};
+use crate::wanted::Wanted;
 use det_values::{CycleInput, OutOfMemory};
 use std::alloc::Global;
 use std::mem;
@@ -41,7 +42,7 @@ enum Progress {
 }
 
 impl StimulusParser {
-    ghost use Rattle.std.specs.Prelude.{ℕ, ◌-◌, List, [], ◌++◌, IsTrue, ◌↔◌, OnOk, OnErr};
+    ghost use Rattle.std.specs.Prelude.{ℕ, ◌-◌, List, [], ◌++◌, IsTrue, ◌↔◌, OnOk, OnErr, IsSome};
     ghost use Rattle.stimulus.specs.declared.stimulus_item.StimulusItem.{StimulusItem};
     ghost use Rattle.stimulus.specs.StandsFor.{StandsFor, NextIs, FinishIs, IsSettled, Settles};
     ghost use Rattle.stimulus.specs.StandsFor.{Falls, waiting, room, left};
@@ -134,6 +135,19 @@ impl StimulusParser {
         Err(self.next_fault())
     }
 
+    /// What may come in place of the bad line. None until that line was returned.
+    pub fn wanted(&self) -> Option<Wanted>
+        ensures { IsSome result ↔ IsSome self.now.fault }
+    {
+        match self.fault {
+            Some(_) => {
+                let bytes = rest_of(&self.pending, self.read);
+                Some(Wanted::after(&self.state, self.events, bytes))
+            }
+            None => None,
+        }
+    }
+
     /// Returns an item that is due, or looks at the next line.
     fn read_line(&mut self) -> Result<Progress, StimulusError>
         ensures events { self.new.events ≡ self.old.events }
@@ -188,7 +202,10 @@ impl StimulusParser {
                 self.lines += 1;
                 Ok(Progress::Item(item))
             }
-            AfterLine::Bad => Err(self.bad_line()),
+            AfterLine::Bad(state) => {
+                self.state = state;
+                Err(self.bad_line())
+            }
             AfterLine::OutOfMemory(state) => {
                 self.state = state;
                 Err(StimulusError::OutOfMemory)

@@ -32,7 +32,8 @@ pub enum AfterLine {
     /// The line completes no item.
     Line(State),
     Item(StimulusItem, State),
-    Bad,
+    /// The line may not come in this state, which is the one before it.
+    Bad(State),
     OutOfMemory(State),
 }
 
@@ -83,10 +84,16 @@ fn take_inside(alloc: Global, blocks: u32, block: CycleInput, line: Line) -> Aft
     ensures counts { Counts result (State.Inside blocks block) }
 {
     match line {
-        Line::Stim => AfterLine::Bad,
+        Line::Stim => AfterLine::Bad(State::Inside {
+            blocks,
+            input: block,
+        }),
         Line::Cycle(time) => {
             if blocks >= MAX_BLOCKS {
-                return AfterLine::Bad;
+                return AfterLine::Bad(State::Inside {
+                    blocks,
+                    input: block,
+                });
             }
             let next = begin(alloc, blocks + 1, time);
             AfterLine::Item(StimulusItem::Cycle(block), next)
@@ -94,7 +101,7 @@ fn take_inside(alloc: Global, blocks: u32, block: CycleInput, line: Line) -> Aft
         Line::Sample(sample) => {
             let mut input = block;
             if input.samples.is_full() {
-                return AfterLine::Bad;
+                return AfterLine::Bad(State::Inside { blocks, input });
             }
             match input.samples.push(sample) {
                 Ok(()) => AfterLine::Line(State::Inside { blocks, input }),
@@ -113,15 +120,15 @@ pub fn take_line(alloc: Global, state: State, line: Line) -> AfterLine
     match state {
         State::First => match line {
             Line::Stim => AfterLine::Line(State::Between),
-            _ => AfterLine::Bad,
+            _ => AfterLine::Bad(State::First),
         },
         State::Between => match line {
             Line::Cycle(time) => AfterLine::Line(begin(alloc, 1, time)),
             Line::Terminate => AfterLine::Item(StimulusItem::Terminate, State::Ended),
-            _ => AfterLine::Bad,
+            _ => AfterLine::Bad(State::Between),
         },
         State::Inside { blocks, input } => take_inside(alloc, blocks, input, line),
-        State::Last => AfterLine::Bad,
-        State::Ended => AfterLine::Bad,
+        State::Last => AfterLine::Bad(State::Last),
+        State::Ended => AfterLine::Bad(State::Ended),
     }
 }

@@ -1,5 +1,5 @@
 -- The results of a text's reader, as those of a slot's reader.
-use Rattle.std.proofs.Common.{◌≡◌, ◌≤◌, inl, inr, ℕ, List, [], ◌∷◌, ◌++◌, length, take, true, false, Option, Some, None, Result, Ok, Err}
+use Rattle.std.proofs.Common.{◌≡◌, ◌≤◌, inl, inr, ℕ, List, [], ◌∷◌, ◌++◌, length, take, Option, Some, None, Result, Ok, Err}
 use Rattle.std.proofs.Common.{refl, sym, ap, subst, ◌∙◌, append_assoc, append-nil}
 use Rattle.det_io.specs.Prefix.{IsPrefix}
 use Rattle.det_io.specs.Shelf.{ShelfState, Reads}
@@ -19,8 +19,8 @@ use Rattle.stimulus.specs.Reading.{Terminated, BadLine, blocks, ending, inputs_o
 use Rattle.stimulus.specs.StandsFor.{StandsFor as Stands, NextIs}
 use Rattle.stimulus.proofs.Growing.{inputs_then, inputs_end, stands_within, blocks_grow}
 use Rattle.stimulus.specs.declared.slot_reader.stimulus_reader.StimulusReader.{StimulusReader}
-use Rattle.stimulus.specs.slot_reader.StandsFor.{StandsFor, InputIs, IsNext, HasAll, IsWhole, IsBad, ReadsIfNeeded, slot_of, events_of}
-use Rattle.stimulus.specs.slot_reader.Steps.{stopped_by, FedIs, Hungers, GaveAll}
+use Rattle.stimulus.specs.slot_reader.StandsFor.{StandsFor, InputIs, ReadsIfNeeded, slot_of, events_of}
+use Rattle.stimulus.specs.slot_reader.Steps.{stopped_by, Hungers, GaveAll}
 
 -- ---- what was fed
 

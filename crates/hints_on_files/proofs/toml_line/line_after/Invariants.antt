@@ -1,6 +1,0 @@
-use Rattle.std.proofs.Common.{◌≤◌, ◌+◌}
-use Rattle.hints_on_files.proofs.toml_line.line_after.Given as goal
-
--- a line more for each line feed so far
-abbrev pub invariant-loop-byte : goal.invariant-loop-byte
-invariant-loop-byte l = (1 ≤ l.line) × (l.line ≤ 1 + l.byte-index)

@@ -1,0 +1,7 @@
+-- A sink that took nothing took a prefix of any bytes.
+use Rattle.std.proofs.Common.{List, ℕ}
+use Rattle.det_io.specs.Sink.{GrewByPrefix}
+use Rattle.det_io.proofs.Growth.{part-none}
+
+pub none-taken : (took : List ℕ → Type 0) (bytes : List ℕ) → GrewByPrefix took took bytes
+none-taken took bytes = part-none took took bytes (record { kept = λ m h. h; no_more = λ m h. h })
