@@ -1,4 +1,4 @@
-//! A bounded queue of rows between two threads.
+//! A bounded queue of rows between two threads, and the rest of it once it is closed.
 //!
 //! Rows go from one thread to another in order, each of them once. While both threads run, neither
 //! end knows the other's list: the sender knows what it sent, and the receiver what it took. Once

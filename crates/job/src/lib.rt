@@ -1,5 +1,6 @@
-//! The traits of jobs and pools: cyclic applications over a container of elements, and the pools
-//! that run their passes.
+//! The traits of jobs and pools: cyclic applications over a container of elements, the pools that
+//! run their passes, the blocks of a pass, what a pool is given (`PassRef`) and the memory it
+//! keeps (`PassRoom`).
 //!
 //! A cycle of a job is a sequential begin (`prepare`), 1 to 8 passes that run each element by
 //! itself, and a sequential end (`conclude`). Each call equals a function of its arguments. From

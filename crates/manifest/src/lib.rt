@@ -1,5 +1,5 @@
-//! Reads a manifest, which says what a client is made of and which resources it needs. It is a TOML
-//! text.
+//! Reads a manifest, which says what a client is made of and which resources it needs: its keys,
+//! names and ranges, and keys that it doesn't know. It is a TOML text.
 #![tactic(auto)]
 
 mod events;

@@ -1,5 +1,6 @@
-//! A pass block by block: runs one block, and makes the result of a pass from the results of
-//! blocks. It is apart from `worker_pool`, since it is the same with and without threads.
+//! A pass block by block: runs one block, sums its draws, and makes the result of a pass from the
+//! results of blocks. It is apart from `worker_pool`, since it is the same with and without
+//! threads.
 //!
 //! A block is `job::block_size` neighbouring elements; the last block may be shorter. `run_block`
 //! runs one. `finish_pass` makes the result of the pass from the blocks that workers ran, and runs

@@ -1,4 +1,5 @@
-//! The pool of several threads, which are kept over a run and claim blocks.
+//! The pool of several threads, which are kept over a run, pass a gate and claim blocks, with laws
+//! of their steps and schedules.
 //!
 //! The workers claim blocks of elements on a table of words. Whatever their order, the result is
 //! that of one thread that takes the elements in order. Each element has its own random numbers,
