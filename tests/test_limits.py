@@ -12,10 +12,15 @@ import pytest
 from commands import NOBODY, Bench, Outcome, Word, as_nobody, excerpt, run
 
 # The sizes of the address space in KiB that are tried, from one in which the C library has no room.
-SIZES = [*range(1000, 4000, 200), *range(4000, 20000, 800), *range(20000, 120000, 10000)]
+# The least size lets the system map a program and its loader, of which it needs some 1,040 KiB.
+SIZES = [*range(1200, 4000, 200), *range(4000, 20000, 800), *range(20000, 120000, 10000)]
 NO_MEMORY = (8, b"out of memory\n")
-# How the system's loader says that it has no room, with the status that it then ends with.
-LOADER = (127, b"error while loading shared libraries")
+# How the system's loader says that it has no room, and the status that it then ends with.
+LOADER_STATUS = 127
+LOADER_SAYS = (
+    b"error while loading shared libraries",
+    b"cannot allocate TLS data structures for initial thread",
+)
 
 MANIFEST = """job = "cloud"
 cycle_time_ns = 10
@@ -58,8 +63,9 @@ def way_of(given: Outcome, whole: Outcome) -> Optional[str]:
     is_short = (given.status, given.error_without_hints()) == NO_MEMORY
     if is_short and whole.out.startswith(given.out):
         return "memory"
-    if given.status == LOADER[0] and LOADER[1] in given.err and not given.out:
-        return "loader"
+    if given.status == LOADER_STATUS and not given.out:
+        if any(says in given.err for says in LOADER_SAYS):
+            return "loader"
     return None
 
 
