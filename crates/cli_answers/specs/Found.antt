@@ -9,8 +9,8 @@ abbrev pub found_by : {V A : Type 0} → (V → OutcomeIn A) → Result V A → 
 found_by printed (Ok value) = printed value
 found_by printed (Err answer) = record { answer = answer; bytes = [] }
 
--- What was found is the outcome `wanted`. `failed`, `is_known` and `read_failed` are as in `MeetsBy`,
--- and `printed` is the outcome of a value.
+-- What was found is the outcome `wanted`. `failed`, `is_known` and `read_failed` are as in
+-- `MeetsBy`, and `printed` is the outcome of a value.
 pub record FindsBy {V A : Type 0} (failed : Failure → A) (printed : V → OutcomeIn A)
     (wanted : OutcomeIn A) (is_known read_failed : Type 0) (found : Result V A) : Type 0 where
   -- if all bytes are known, it is, unless a read failed or memory ran out
