@@ -10,10 +10,10 @@ ghost use Rattle.worker_pool.specs.Crews.{room_name};
 
 use anyhow::{Context, Result, bail};
 use det_client::{Client, Next};
-use det_values::{Container, Events, OutOfMemory, Params};
+use det_values::{Container, Events, Params};
 use job::event_cache::EventCache;
 use job::{Job, JobStart, PassRoom, Pool};
-use std::alloc::Global;
+use std::alloc::{AllocError, Global};
 use std::marker::Brand;
 use std::sync::Arc;
 use std::thread::Threads;
@@ -22,19 +22,19 @@ use tickets::OfficeName;
 use worker_pool::{Crew, CrewRoom, NoGate, OwnedPass};
 
 /// A cache without events.
-fn no_events(alloc: Global) -> std::result::Result<EventCache, OutOfMemory>
+fn no_events(alloc: Global) -> std::result::Result<EventCache, AllocError>
     ensures { IfOk result (λ cache. length (windows cache) ≡ 0) }
 {
     EventCache::new(alloc, &Events::new(alloc))
 }
 
 /// A value behind a new `Arc`.
-fn new_shared<T: Drop>(alloc: Global, value: T) -> std::result::Result<Arc<T, Global>, OutOfMemory>
+fn new_shared<T: Drop>(alloc: Global, value: T) -> std::result::Result<Arc<T, Global>, AllocError>
     ensures { IfOk result (λ owner. arc_value owner ≡ value) }
 {
     match Arc::new(alloc, value) {
         Ok(owner) => Ok(owner),
-        Err(_) => Err(OutOfMemory),
+        Err(_) => Err(AllocError),
     }
 }
 
@@ -46,7 +46,7 @@ fn pass_zero<J: Job>(
     carry: J::Part,
     elements: Container<J::Element>,
     seed: u64,
-) -> std::result::Result<OwnedPass<J>, OutOfMemory>
+) -> std::result::Result<OwnedPass<J>, AllocError>
     requires fit { J.Fit job plan }
     requires carry { CoversSome (J.Covers job) carry }
     requires own { All (J.Own job) elements }

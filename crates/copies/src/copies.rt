@@ -12,10 +12,9 @@ ghost use Rattle.copies.specs.Copies.{RowRead, IsCounted, runs_of};
 use crate::copy_readers::{compare_others, item_bytes, next_of_copy, readers_at};
 use crate::{BadCopy, Verdict};
 use det_io::{Slots, Stopped};
-use det_values::OutOfMemory;
 use record_reader::item_reader::ItemReader;
 use record_view::{FrameKind, ItemKind, ItemView};
-use std::alloc::Global;
+use std::alloc::{AllocError, Global};
 
 /// The readers of all copies. Each gave the same items so far.
 #[derive(Drop)]
@@ -31,7 +30,7 @@ pub struct Copies {
 
 impl Copies {
     /// Readers for these slots, in this order. Nothing was read yet.
-    pub fn new(alloc: Global, slots: &[u32]) -> Result<Copies, OutOfMemory>
+    pub fn new(alloc: Global, slots: &[u32]) -> Result<Copies, AllocError>
         requires { 1 ≤ length slots.now }
         ensures { IfOk result (λ copies. (state : ShelfState)
             → AreCopiesAfter state state [] slots.now copies) }

@@ -15,21 +15,20 @@ ghost use Rattle.copies.specs.Copies.{RoomFellIf, OthersRead};
 use crate::difference_verdict::{Place, difference_at, difference_verdict, end_difference};
 use crate::{BadCopy, Difference, Verdict};
 use det_io::{Slots, Stopped};
-use det_values::OutOfMemory;
 use record_grammar::RecordFault;
 use record_reader::item_reader::{Comparison, ItemReader};
 use record_view::ItemView;
-use std::alloc::Global;
+use std::alloc::{AllocError, Global};
 
 /// One reader for each slot, in order.
-pub fn readers_at(alloc: Global, slots: &[u32]) -> Result<Vec<ItemReader>, OutOfMemory>
+pub fn readers_at(alloc: Global, slots: &[u32]) -> Result<Vec<ItemReader>, AllocError>
     ensures { IfOk result (λ readers. (state : ShelfState)
         → AreReadersAfter state state [] slots.now readers.items) }
 {
     let mut readers = Vec::new(alloc);
     'slots: for slot in slots {
         if readers.push(ItemReader::new(alloc, *slot)).is_err() {
-            return Err(OutOfMemory);
+            return Err(AllocError);
         }
     }
     Ok(readers)

@@ -2,7 +2,7 @@
 use Rattle.std.specs.Prelude.{◌≡◌, ℕ, List, Result, Ok, Err, IsErr}
 use Rattle.std.specs.Arc.{arc_value}
 use Rattle.det_values.specs.Values.{RefusedAtValue}
-use Rattle.det_values.specs.declared.out_of_memory.OutOfMemory.{OutOfMemory as NoMemory}
+use Rattle.std.specs.declared.alloc.AllocError.{AllocError}
 use Rattle.det_values.specs.declared.frames.Outcome.{Outcome}
 use Rattle.det_values.specs.declared.frames.Outcome.TheVariants as outcomes
 use Rattle.det_values.specs.declared.refused_at.Phase.{Phase}
@@ -74,6 +74,6 @@ JobEnds phase job.OutOfMemory (Refused at) = ⊥
 JobEnds phase job.OutOfMemory OutOfMemory = Unit {0}
 
 -- a refusal is an outcome, "out of memory" is none
-abbrev pub FaultOutcome : CycleFault → Result Outcome NoMemory → Type 0
+abbrev pub FaultOutcome : CycleFault → Result Outcome AllocError → Type 0
 FaultOutcome (Refused at) outcome = outcome ≡ Ok (outcomes.Refused at)
 FaultOutcome OutOfMemory outcome = IsErr outcome

@@ -3,8 +3,9 @@ ghost use Rattle.std.specs.Prelude.{◌≡◌, ◌<◌};
 ghost use Rattle.job.specs.Passes.{RefusedBelow};
 ghost use Rattle.cycle_engine.specs.PhaseResults.{PoolEnds, JobEnds, FaultOutcome};
 
-use det_values::{OutOfMemory, Outcome, Phase, RefusedAt};
+use det_values::{Outcome, Phase, RefusedAt};
 use job::{JobFault, PoolFault};
+use std::alloc::AllocError;
 
 /// Why a cycle failed.
 #[derive(Clone, Copy, Debug, PartialEq, Eq, Drop)]
@@ -15,25 +16,25 @@ pub enum CycleFault {
     OutOfMemory,
 }
 
-impl From<OutOfMemory> for CycleFault {
+impl From<AllocError> for CycleFault {
     ghost use Rattle.std.specs.Prelude.{◌≡◌};
     ghost use Rattle.cycle_engine.specs.declared.cycle_fault.CycleFault.TheVariants as faults;
 
     ghost from_gives = { λ _ fault. fault ≡ faults.OutOfMemory };
 
-    fn from(_: OutOfMemory) -> CycleFault {
+    fn from(_: AllocError) -> CycleFault {
         CycleFault::OutOfMemory
     }
 }
 
 impl CycleFault {
     /// The outcome of a cycle with this fault: a refusal has one, "out of memory" has none.
-    pub(crate) fn outcome(self) -> Result<Outcome, OutOfMemory>
+    pub(crate) fn outcome(self) -> Result<Outcome, AllocError>
         ensures { FaultOutcome self result }
     {
         match self {
             CycleFault::Refused(at) => Ok(Outcome::Refused(at)),
-            CycleFault::OutOfMemory => Err(OutOfMemory),
+            CycleFault::OutOfMemory => Err(AllocError),
         }
     }
 }

@@ -3,9 +3,9 @@ ghost use Rattle.std.specs.Prelude.{◌≡◌, IfOk};
 ghost use Rattle.std.specs.Arc.{arc_value};
 
 use crate::shared_place::SharedPlace;
-use det_values::{Bytes, Container, CycleInput, OutOfMemory, Outcome, RunFrame, Spares};
+use det_values::{Bytes, Container, CycleInput, Outcome, RunFrame, Spares};
 use job::{Job, PassRoom};
-use std::alloc::Global;
+use std::alloc::{AllocError, Global};
 use std::marker::Model;
 use std::mem;
 use std::sync::Arc;
@@ -57,7 +57,7 @@ impl<J: Job> Desk<J> {
     }
 
     /// A plan with an owner that can be cloned.
-    pub(crate) fn share_plan(&mut self, plan: J::Plan) -> Result<Arc<J::Plan, Global>, OutOfMemory>
+    pub(crate) fn share_plan(&mut self, plan: J::Plan) -> Result<Arc<J::Plan, Global>, AllocError>
         ensures { IfOk result (λ owner. arc_value owner ≡ plan) }
     {
         let alloc = self.alloc();
@@ -65,7 +65,7 @@ impl<J: Job> Desk<J> {
     }
 
     /// A part that is carried to a pass, with an owner that can be cloned.
-    pub(crate) fn share_part(&mut self, part: J::Part) -> Result<Arc<J::Part, Global>, OutOfMemory>
+    pub(crate) fn share_part(&mut self, part: J::Part) -> Result<Arc<J::Part, Global>, AllocError>
         ensures { IfOk result (λ owner. arc_value owner ≡ part) }
     {
         let alloc = self.alloc();
@@ -80,7 +80,7 @@ impl<J: Job> Desk<J> {
     pub(crate) fn share_elements(
         &mut self,
         elements: Container<J::Element>,
-    ) -> Result<Arc<Container<J::Element>, Global>, OutOfMemory>
+    ) -> Result<Arc<Container<J::Element>, Global>, AllocError>
         ensures { IfOk result (λ owner. arc_value owner ≡ elements) }
     {
         let alloc = self.alloc();
@@ -95,7 +95,7 @@ impl<J: Job> Desk<J> {
     pub(crate) fn share_draws(
         &mut self,
         draws: Container<u32>,
-    ) -> Result<Arc<Container<u32>, Global>, OutOfMemory>
+    ) -> Result<Arc<Container<u32>, Global>, AllocError>
         ensures { IfOk result (λ owner. arc_value owner ≡ draws) }
     {
         let alloc = self.alloc();

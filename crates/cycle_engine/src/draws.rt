@@ -6,10 +6,10 @@ ghost use Rattle.job.specs.Cycle.{added};
 ghost use Rattle.job.specs.Passes.{drawn_so_far};
 
 use crate::desk::Desk;
-use det_values::{Container, OutOfMemory};
+use det_values::Container;
 use job::Job;
 use pass_in_blocks::draw_sums;
-use std::alloc::Global;
+use std::alloc::{AllocError, Global};
 use std::marker::Model;
 use std::sync::Arc;
 
@@ -55,7 +55,7 @@ impl Draws {
     pub(crate) fn into_sums<J: Job>(
         self,
         desk: &mut Desk<J>,
-    ) -> Result<Arc<Container<u32>, Global>, OutOfMemory>
+    ) -> Result<Arc<Container<u32>, Global>, AllocError>
         ensures { IfOk result (λ all. arc_value all ≡ self) }
     {
         let Draws { earlier, own } = self;

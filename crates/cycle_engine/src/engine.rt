@@ -24,12 +24,12 @@ use crate::phases::CycleDone;
 use crate::shared_place::new_shared;
 use det_client::{Client, Next};
 use det_values::{
-    Bytes64, Container, CycleInput, Elements, Format, Frame, OutOfMemory, Outcome, Profile,
-    RunFrame, Sample, reduce_to_format,
+    Bytes64, Container, CycleInput, Elements, Format, Frame, Outcome, Profile, RunFrame, Sample,
+    reduce_to_format,
 };
 use job::event_cache::EventCache;
 use job::{Job, Pool};
-use std::alloc::Global;
+use std::alloc::{AllocError, Global};
 use std::marker::Model;
 use std::mem;
 use std::sync::Arc;
@@ -107,7 +107,7 @@ fn frame_in_format(format: Format, input: CycleInput, outcome: Outcome) -> RunFr
 impl<J: Job> Engine<J> {
     /// Starts the job of a profile: brings a new client through its first three activations, and
     /// makes the job's elements.
-    pub fn start(alloc: Global, job: J, profile: &Profile) -> Result<Engine<J>, OutOfMemory>
+    pub fn start(alloc: Global, job: J, profile: &Profile) -> Result<Engine<J>, AllocError>
         requires good { J.meaning.bad_param profile.now.params (length profile.now.events) ≡ None }
         requires made { job ≡ J.meaning.made profile.now.params (length profile.now.events) }
         ensures stands { IfOk result (λ engine. StandsFor J.meaning profile.now engine []) }
@@ -135,7 +135,7 @@ impl<J: Job> Engine<J> {
     }
 
     /// The bytes of the present elements, in order.
-    pub fn shown(&self, alloc: Global) -> Result<Elements, OutOfMemory>
+    pub fn shown(&self, alloc: Global) -> Result<Elements, AllocError>
         ensures { IfOk result (λ shown.
             shown ≡ map (J.meaning.shown self.now.job) self.now.state.elements) }
     {
@@ -151,7 +151,7 @@ impl<J: Job> Engine<J> {
 
     /// Appends the bytes of the present elements in order, each after their number in two bytes. A
     /// call that fails may leave some of them.
-    pub fn put_elements(&self, out: &mut Vec<u8>) -> Result<(), OutOfMemory>
+    pub fn put_elements(&self, out: &mut Vec<u8>) -> Result<(), AllocError>
         ensures { OnOk result (out.new.items ≡ out.old.items ++ flat_map with_length
             (map (J.meaning.shown self.now.job) self.now.state.elements)) }
     {
@@ -209,7 +209,7 @@ impl<J: Job> Engine<J> {
         desk: &mut Desk<J>,
         pool: &mut P,
         time: Option<u64>,
-    ) -> Result<Outcome, OutOfMemory>
+    ) -> Result<Outcome, AllocError>
         requires few { self.old.cycles < 1000000 }
         requires going { self.old.stopped ≡ false }
         ensures outcome { IfOk result (λ outcome.
@@ -256,7 +256,7 @@ impl<J: Job> Engine<J> {
         desk: &mut Desk<J>,
         pool: &mut P,
         input: CycleInput,
-    ) -> Result<RunFrame, OutOfMemory>
+    ) -> Result<RunFrame, AllocError>
         requires few { self.old.cycles < 1000000 }
         requires events { All (λ s. s.event < length self.old.rings) input.samples }
         requires going { self.old.stopped ≡ false }

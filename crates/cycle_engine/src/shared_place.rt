@@ -2,18 +2,17 @@
 ghost use Rattle.std.specs.Prelude.{◌≡◌, IfOk};
 ghost use Rattle.std.specs.Arc.{arc_value};
 
-use det_values::OutOfMemory;
-use std::alloc::Global;
+use std::alloc::{AllocError, Global};
 use std::mem;
 use std::sync::Arc;
 
 /// A value behind a new `Arc`.
-pub(crate) fn new_shared<T: Drop>(alloc: Global, value: T) -> Result<Arc<T, Global>, OutOfMemory>
+pub(crate) fn new_shared<T: Drop>(alloc: Global, value: T) -> Result<Arc<T, Global>, AllocError>
     ensures { IfOk result (λ owner. arc_value owner ≡ value) }
 {
     match Arc::new(alloc, value) {
         Ok(owner) => Ok(owner),
-        Err(_) => Err(OutOfMemory),
+        Err(_) => Err(AllocError),
     }
 }
 
@@ -37,7 +36,7 @@ impl<T: Drop> SharedPlace<T> {
 
     /// The value behind an `Arc`. The value before becomes the spare one, unless it still has
     /// another owner.
-    pub(crate) fn share(&mut self, alloc: Global, value: T) -> Result<Arc<T, Global>, OutOfMemory>
+    pub(crate) fn share(&mut self, alloc: Global, value: T) -> Result<Arc<T, Global>, AllocError>
         ensures { IfOk result (λ owner. arc_value owner ≡ value) }
     {
         let Some(mut owner) = self.owner.take() else {

@@ -1,7 +1,6 @@
 //! The errors of calls that read or write: `Failure` for IO and memory, and `Stopped` for calls
 //! that may also refuse their input.
 use crate::{ShelfFailed, SinkFailed};
-use det_values::OutOfMemory;
 use std::alloc::AllocError;
 
 /// Why a call that reads or writes failed.
@@ -40,17 +39,6 @@ impl From<AllocError> for Failure {
     ghost from_gives = { λ _ failure. failure ≡ OutOfMemory };
 
     fn from(_: AllocError) -> Failure {
-        Failure::OutOfMemory
-    }
-}
-
-impl From<OutOfMemory> for Failure {
-    ghost use Rattle.std.specs.Prelude.{◌≡◌};
-    ghost use Rattle.det_io.specs.declared.failure.Failure.TheVariants.{OutOfMemory};
-
-    ghost from_gives = { λ _ failure. failure ≡ OutOfMemory };
-
-    fn from(_: OutOfMemory) -> Failure {
         Failure::OutOfMemory
     }
 }
@@ -98,18 +86,6 @@ impl<E> From<AllocError> for Stopped<E> {
     ghost from_gives = { λ _ stopped. stopped ≡ Failed OutOfMemory };
 
     fn from(_: AllocError) -> Stopped<E> {
-        Stopped::Failed(Failure::OutOfMemory)
-    }
-}
-
-impl<E> From<OutOfMemory> for Stopped<E> {
-    ghost use Rattle.std.specs.Prelude.{◌≡◌};
-    ghost use Rattle.det_io.specs.declared.failure.Failure.TheVariants.{OutOfMemory};
-    ghost use Rattle.det_io.specs.declared.failure.Stopped.TheVariants.{Failed};
-
-    ghost from_gives = { λ _ stopped. stopped ≡ Failed OutOfMemory };
-
-    fn from(_: OutOfMemory) -> Stopped<E> {
         Stopped::Failed(Failure::OutOfMemory)
     }
 }

@@ -7,9 +7,9 @@ mod place;
 use crate::planned_calls::PlannedCalls;
 use crate::reserved_push::push_within;
 use crate::{FailList, Failure, Shelf, ShelfFailed, Slots};
-use det_values::{Limited, OutOfMemory};
+use det_values::Limited;
 use place::FilePlace;
-use std::alloc::Global;
+use std::alloc::{AllocError, Global};
 
 /// A file in memory: a name and bytes.
 #[derive(Drop)]
@@ -66,7 +66,7 @@ impl MemShelf {
         files: MemFiles,
         fails: FailList,
         opens: u32,
-    ) -> Result<MemShelf, OutOfMemory>
+    ) -> Result<MemShelf, AllocError>
         requires { opens ≤ 1024 }
         ensures { IfOk result (λ shelf. IsNewMemShelf shelf
             (record { files = files; fails = fails; opens = opens; most = 2 ^ 64 - 1 })) }
@@ -81,7 +81,7 @@ impl MemShelf {
         fails: FailList,
         opens: u32,
         most: usize,
-    ) -> Result<MemShelf, OutOfMemory>
+    ) -> Result<MemShelf, AllocError>
         requires opens { opens ≤ 1024 }
         requires most { 0 < most }
         ensures { IfOk result (λ shelf. IsNewMemShelf shelf

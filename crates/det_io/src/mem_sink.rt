@@ -3,8 +3,7 @@ ghost use Rattle.std.specs.Prelude.{◌≡◌, ◌<◌, ◌≤◌, vec_len, vec_
 
 use crate::planned_calls::PlannedCalls;
 use crate::{FailList, Sink, SinkFailed};
-use det_values::OutOfMemory;
-use std::alloc::Global;
+use std::alloc::{AllocError, Global};
 
 /// A sink that keeps the bytes it takes, for tests. `write` allocates nothing: all room is taken at
 /// the start.
@@ -31,7 +30,7 @@ impl MemSink {
         room: usize,
         most: usize,
         fails: FailList,
-    ) -> Result<MemSink, OutOfMemory>
+    ) -> Result<MemSink, AllocError>
         requires { 0 < most }
         ensures { IfOk result (λ sink. IsNewMemSink sink
             (record { room = room; most = most; fails = fails })) }

@@ -6,18 +6,16 @@ ghost use Rattle.det_record_c.specs.Ranges.{IsSoundFinish, IsSoundRefusal};
 
 use crate::c_types::{DetElement, DetEvent, DetProfile, DetRefusal, DetSample, DetTime};
 use crate::list;
-use det_values::{
-    Bytes, CycleInput, Format, Frame, OutOfMemory, Outcome, Params, Profile, RunFrame,
-};
+use det_values::{Bytes, CycleInput, Format, Frame, Outcome, Params, Profile, RunFrame};
 use record_grammar::Item;
-use std::alloc::Global;
+use std::alloc::{AllocError, Global};
 
 pub(crate) fn header(
     alloc: Global,
     profile: &DetProfile,
     params: &[i64],
     events: &[DetEvent],
-) -> Result<Item, OutOfMemory>
+) -> Result<Item, AllocError>
     requires { IsSoundHeader profile.now params.now events.now }
     ensures { IfOk result (λ item. item ≡ header_of profile.now params.now events.now) }
 {
@@ -34,7 +32,7 @@ pub(crate) fn header(
     }))
 }
 
-pub(crate) fn init(alloc: Global, elements: &[DetElement]) -> Result<Item, OutOfMemory>
+pub(crate) fn init(alloc: Global, elements: &[DetElement]) -> Result<Item, AllocError>
     requires { AreSoundElements elements.now }
     ensures { IfOk result (λ item. item ≡ init_of elements.now) }
 {
@@ -47,7 +45,7 @@ fn input(
     events: u16,
     time: &DetTime,
     samples: &[DetSample],
-) -> Result<CycleInput, OutOfMemory>
+) -> Result<CycleInput, AllocError>
     requires { AreSoundSamples events samples.now }
     ensures { IfOk result (λ input. input ≡ input_of time.now samples.now) }
 {
@@ -65,7 +63,7 @@ pub(crate) fn finished(
     samples: &[DetSample],
     elements: &[DetElement],
     output: &[u8],
-) -> Result<Item, OutOfMemory>
+) -> Result<Item, AllocError>
     requires { IsSoundFinish events samples.now elements.now output.now }
     ensures { IfOk result (λ item. item
         ≡ finished_of time.now samples.now elements.now output.now) }
@@ -87,7 +85,7 @@ pub(crate) fn refused(
     time: &DetTime,
     samples: &[DetSample],
     refusal: &DetRefusal,
-) -> Result<Item, OutOfMemory>
+) -> Result<Item, AllocError>
     requires { IsSoundRefusal events samples.now refusal.now }
     ensures { IfOk result (λ item. item ≡ refused_of time.now samples.now refusal.now) }
 {

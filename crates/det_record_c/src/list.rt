@@ -5,14 +5,14 @@ ghost use Rattle.det_record_c.specs.CValues.{sample_of, bytes_of, drawn_of, even
 ghost use Rattle.det_record_c.specs.Ranges.{AreSoundSamples, AreSoundElements, IsSoundEvent};
 
 use crate::c_types::{DetElement, DetEvent, DetSample};
-use det_values::{Bytes64, DrawnElements, Elements, Events, OutOfMemory, Samples};
-use std::alloc::Global;
+use det_values::{Bytes64, DrawnElements, Elements, Events, Samples};
+use std::alloc::{AllocError, Global};
 
 pub(crate) fn samples(
     alloc: Global,
     events: u16,
     given: &[DetSample],
-) -> Result<Samples, OutOfMemory>
+) -> Result<Samples, AllocError>
     requires { AreSoundSamples events given.now }
     ensures { IfOk result (λ list. list ≡ map sample_of given.now) }
 {
@@ -23,7 +23,7 @@ pub(crate) fn samples(
     Ok(list)
 }
 
-pub(crate) fn elements(alloc: Global, given: &[DetElement]) -> Result<Elements, OutOfMemory>
+pub(crate) fn elements(alloc: Global, given: &[DetElement]) -> Result<Elements, AllocError>
     requires { AreSoundElements given.now }
     ensures { IfOk result (λ list. list ≡ map bytes_of given.now) }
 {
@@ -34,7 +34,7 @@ pub(crate) fn elements(alloc: Global, given: &[DetElement]) -> Result<Elements, 
     Ok(list)
 }
 
-pub(crate) fn drawn(alloc: Global, given: &[DetElement]) -> Result<DrawnElements, OutOfMemory>
+pub(crate) fn drawn(alloc: Global, given: &[DetElement]) -> Result<DrawnElements, AllocError>
     requires { AreSoundElements given.now }
     ensures { IfOk result (λ list. list ≡ map drawn_of given.now) }
 {
@@ -45,7 +45,7 @@ pub(crate) fn drawn(alloc: Global, given: &[DetElement]) -> Result<DrawnElements
     Ok(list)
 }
 
-pub(crate) fn events(alloc: Global, given: &[DetEvent]) -> Result<Events, OutOfMemory>
+pub(crate) fn events(alloc: Global, given: &[DetEvent]) -> Result<Events, AllocError>
     requires few { length given.now ≤ 256 }
     requires sound { All IsSoundEvent given.now }
     ensures { IfOk result (λ list. list ≡ map event_of given.now) }

@@ -6,13 +6,13 @@ ghost use Rattle.det_record_c.specs.Parts.{CanBeSpelled, MayBeWritten, call_stat
 
 use crate::cause::Cause;
 use crate::det_record::DetRecord;
-use det_values::{Format, OutOfMemory};
+use det_values::Format;
 use record_codec::{encode_frame, encode_header};
 use record_grammar::Item;
-use std::alloc::Global;
+use std::alloc::{AllocError, Global};
 
 /// The bytes of an item, after a header with this number of events.
-fn encode_item(alloc: Global, events: u16, item: &Item) -> Result<Vec<u8>, OutOfMemory>
+fn encode_item(alloc: Global, events: u16, item: &Item) -> Result<Vec<u8>, AllocError>
     requires { CanBeSpelled events item.now }
     ensures bytes { IfOk result (λ bytes. bytes.items ≡ spelling_of item.now) }
     ensures fields { IfOk result (λ bytes. HasFields events item.now) }

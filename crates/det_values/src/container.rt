@@ -4,11 +4,11 @@ ghost use Rattle.std.specs.Prelude.{drop};
 ghost use Rattle.std.specs.Prelude.{slice_index_or, OnOk, OnErr, IfOk, IsTrue, ◌↔◌};
 ghost use Rattle.det_values.specs.Blocks.{joined, AreBlocks, block_items};
 
+use crate::Spares;
 use crate::container_blocks::{
     add_block, add_to_last, append_to_last, last_block_has_room, try_push,
 };
-use crate::{OutOfMemory, Spares};
-use std::alloc::Global;
+use std::alloc::{AllocError, Global};
 use std::marker::Model;
 
 /// The elements of a job, or one value for each of them: at most 65,536, in blocks of 256. The last
@@ -43,7 +43,7 @@ impl<E> Container<E> {
 
     /// An empty container with room for the list of blocks of `elements` elements. The blocks
     /// themselves are allocated later.
-    pub fn with_room(alloc: Global, elements: usize) -> Result<Container<E>, OutOfMemory>
+    pub fn with_room(alloc: Global, elements: usize) -> Result<Container<E>, AllocError>
         requires { elements ≤ 65536 }
         ensures { IfOk result (λ container. container ≡ []) }
     {
@@ -124,7 +124,7 @@ impl<E> Container<E> {
     }
 
     /// Adds an element at the end. A call that fails drops it and changes nothing.
-    pub fn push(&mut self, alloc: Global, item: E) -> Result<(), OutOfMemory>
+    pub fn push(&mut self, alloc: Global, item: E) -> Result<(), AllocError>
     where
         E: Drop,
         requires { length self.old < 65536 }
@@ -140,7 +140,7 @@ impl<E> Container<E> {
 
     /// Moves these elements to the end, into one block of 256. If they join others in that block,
     /// `spares` gets their list. A call that fails drops them and changes nothing.
-    pub fn push_block(&mut self, block: Vec<E>, spares: &mut Spares<E>) -> Result<(), OutOfMemory>
+    pub fn push_block(&mut self, block: Vec<E>, spares: &mut Spares<E>) -> Result<(), AllocError>
     where
         E: Drop,
         requires some { 0 < length block.items }
@@ -155,6 +155,6 @@ impl<E> Container<E> {
         if try_push(&mut self.blocks, block) {
             return Ok(());
         }
-        Err(OutOfMemory)
+        Err(AllocError)
     }
 }

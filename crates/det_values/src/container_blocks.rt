@@ -3,8 +3,8 @@ ghost use Rattle.std.specs.Prelude.{◌≡◌, ◌+◌, ◌≤◌, ◌%◌, ◌+
 ghost use Rattle.std.specs.Bool.{OnTrue, OnFalse};
 ghost use Rattle.det_values.specs.Blocks.{joined, AreBlocks, HasRoom, AreFull, block_items, Adds};
 
-use crate::{OutOfMemory, Spares};
-use std::alloc::Global;
+use crate::Spares;
+use std::alloc::{AllocError, Global};
 
 /// Adds an item, and returns whether there was memory for it. Otherwise the item is dropped.
 pub(crate) fn try_push<T: Drop>(items: &mut Vec<T>, item: T) -> bool
@@ -31,7 +31,7 @@ pub(crate) fn last_block_has_room<E>(blocks: &Vec<Vec<E>>) -> bool
 }
 
 /// Adds an element to the last block. A call that fails drops it and changes nothing.
-pub(crate) fn add_to_last<E: Drop>(blocks: &mut Vec<Vec<E>>, item: E) -> Result<(), OutOfMemory>
+pub(crate) fn add_to_last<E: Drop>(blocks: &mut Vec<Vec<E>>, item: E) -> Result<(), AllocError>
     requires blocks { AreBlocks (block_items blocks.old.items) }
     requires room { HasRoom (block_items blocks.old.items) }
     ensures { Adds result blocks.old.items blocks.new.items (item ∷ []) }
@@ -41,7 +41,7 @@ pub(crate) fn add_to_last<E: Drop>(blocks: &mut Vec<Vec<E>>, item: E) -> Result<
     if try_push(last, item) {
         return Ok(());
     }
-    Err(OutOfMemory)
+    Err(AllocError)
 }
 
 /// Adds a block of one element. A call that fails drops it and changes nothing.
@@ -49,19 +49,19 @@ pub(crate) fn add_block<E: Drop>(
     blocks: &mut Vec<Vec<E>>,
     alloc: Global,
     item: E,
-) -> Result<(), OutOfMemory>
+) -> Result<(), AllocError>
     requires blocks { AreBlocks (block_items blocks.old.items) }
     requires full { AreFull (block_items blocks.old.items) }
     ensures { Adds result blocks.old.items blocks.new.items (item ∷ []) }
 {
     let mut block = Vec::new(alloc);
     if !try_push(&mut block, item) {
-        return Err(OutOfMemory);
+        return Err(AllocError);
     }
     if try_push(blocks, block) {
         return Ok(());
     }
-    Err(OutOfMemory)
+    Err(AllocError)
 }
 
 /// Moves elements to the end of the last block, and gives their empty list to `spares`. A call that
@@ -70,7 +70,7 @@ pub(crate) fn append_to_last<E: Drop>(
     blocks: &mut Vec<Vec<E>>,
     mut more: Vec<E>,
     spares: &mut Spares<E>,
-) -> Result<(), OutOfMemory>
+) -> Result<(), AllocError>
     requires blocks { AreBlocks (block_items blocks.old.items) }
     requires room { HasRoom (block_items blocks.old.items) }
     requires together { length (joined (block_items blocks.old.items)) % 256 + length more.items
@@ -84,6 +84,6 @@ pub(crate) fn append_to_last<E: Drop>(
             spares.keep_block(more);
             Ok(())
         }
-        Err(_) => Err(OutOfMemory),
+        Err(_) => Err(AllocError),
     }
 }

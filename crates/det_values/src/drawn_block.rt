@@ -5,11 +5,10 @@ ghost use Rattle.std.specs.List.{All};
 ghost use Rattle.det_values.specs.Spelling.{an_element, spelled_drawn, spelled_all, IsDrawn};
 ghost use Rattle.det_values.specs.declared.frames.DrawnElement.{DrawnElement};
 
-use crate::OutOfMemory;
 use crate::block_walk::BlockWalk;
 use crate::clear_draws::clear_all_draws;
 use crate::put::put_drawn;
-use std::alloc::Global;
+use std::alloc::{AllocError, Global};
 use std::marker::Model;
 
 /// The bytes and draws of consecutive elements of a finished cycle: at most 65,536 elements of at
@@ -79,7 +78,7 @@ impl DrawnBlock {
     }
 
     /// Adds an element at the end. A call that fails changes nothing.
-    pub fn push(&mut self, bytes: &[u8], draws: u32) -> Result<(), OutOfMemory>
+    pub fn push(&mut self, bytes: &[u8], draws: u32) -> Result<(), AllocError>
         requires room { length self.old < 65536 }
         requires short { length bytes.now ≤ 64 }
         ensures ok { OnOk result (self.new ≡ self.old ++ an_element bytes.now draws ∷ []) }
@@ -104,7 +103,7 @@ impl DrawnBlock {
 
     /// Adds `count` elements, given as bytes of a record, by one copy. A call that fails changes
     /// nothing.
-    pub fn extend_spelled(&mut self, spelled: &[u8], count: u32) -> Result<(), OutOfMemory>
+    pub fn extend_spelled(&mut self, spelled: &[u8], count: u32) -> Result<(), AllocError>
         requires room { length self.old + count ≤ 65536 }
         requires spelled { (es : List DrawnElement) × (spelled.now ≡ spelled_all es)
             × (length es ≡ count) × All IsDrawn es }
@@ -117,7 +116,7 @@ impl DrawnBlock {
                 self.count += count;
                 Ok(())
             }
-            Err(_) => Err(OutOfMemory),
+            Err(_) => Err(AllocError),
         }
     }
 

@@ -8,20 +8,19 @@ ghost use Rattle.det_values.specs.Equal.{drawn_eq};
 ghost use Rattle.det_values.specs.Frames.{all_without_draws};
 ghost use Rattle.det_values.specs.declared.frames.DrawnElement.{DrawnElement};
 
-use crate::OutOfMemory;
 use crate::block_walk::BlockWalk;
 use crate::drawn_block::DrawnBlock;
 use crate::walk::Walk;
-use std::alloc::Global;
+use std::alloc::{AllocError, Global};
 
 /// Adds a block at the end. A call that fails drops it and changes nothing.
-pub(crate) fn add_block(blocks: &mut Vec<DrawnBlock>, block: DrawnBlock) -> Result<(), OutOfMemory>
+pub(crate) fn add_block(blocks: &mut Vec<DrawnBlock>, block: DrawnBlock) -> Result<(), AllocError>
     ensures ok { OnOk result (blocks.new.items ≡ blocks.old.items ++ block ∷ []) }
     ensures err { OnErr result (blocks.new.items ≡ blocks.old.items) }
 {
     match blocks.push(block) {
         Ok(()) => Ok(()),
-        Err(_) => Err(OutOfMemory),
+        Err(_) => Err(AllocError),
     }
 }
 
@@ -29,7 +28,7 @@ pub(crate) fn add_block(blocks: &mut Vec<DrawnBlock>, block: DrawnBlock) -> Resu
 pub(crate) fn ensure_drawn_block(
     blocks: &mut Vec<DrawnBlock>,
     alloc: Global,
-) -> Result<(), OutOfMemory>
+) -> Result<(), AllocError>
     ensures same { joined blocks.new.items ≡ joined blocks.old.items }
     ensures some { OnOk result (0 < length blocks.new.items) }
 {
@@ -44,7 +43,7 @@ pub(crate) fn push_drawn(
     blocks: &mut Vec<DrawnBlock>,
     bytes: &[u8],
     draws: u32,
-) -> Result<(), OutOfMemory>
+) -> Result<(), AllocError>
     requires some { 0 < length blocks.old.items }
     requires room { length (joined blocks.old.items) < 65536 }
     requires short { length bytes.now ≤ 64 }
@@ -62,7 +61,7 @@ pub(crate) fn extend_drawn(
     blocks: &mut Vec<DrawnBlock>,
     spelled: &[u8],
     count: u32,
-) -> Result<(), OutOfMemory>
+) -> Result<(), AllocError>
     requires some { 0 < length blocks.old.items }
     requires room { length (joined blocks.old.items) + count ≤ 65536 }
     requires spelled { (es : List DrawnElement) × (spelled.now ≡ spelled_all es)

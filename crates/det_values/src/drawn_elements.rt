@@ -5,14 +5,13 @@ ghost use Rattle.det_values.specs.Blocks.{joined};
 ghost use Rattle.det_values.specs.Spelling.{an_element, spelled_all, IsDrawn};
 ghost use Rattle.det_values.specs.declared.frames.DrawnElement.{DrawnElement};
 
-use crate::OutOfMemory;
 use crate::drawn_block::DrawnBlock;
 use crate::drawn_blocks::{
     add_block, are_walks_equal, clear_block_draws, clear_drawn_blocks, ensure_drawn_block,
     extend_drawn, push_drawn, walk_drawn_blocks,
 };
 use crate::walk::Walk;
-use std::alloc::Global;
+use std::alloc::{AllocError, Global};
 use std::marker::Model;
 
 /// The bytes and draws of each element of a finished cycle: at most 65,536 elements of at most 64
@@ -79,7 +78,7 @@ impl DrawnElements {
 
     /// Adds an element to the last block, or to a new one if there is none. A call that fails
     /// changes nothing.
-    pub fn push(&mut self, bytes: &[u8], draws: u32) -> Result<(), OutOfMemory>
+    pub fn push(&mut self, bytes: &[u8], draws: u32) -> Result<(), AllocError>
         requires room { length self.old < 65536 }
         requires short { length bytes.now ≤ 64 }
         ensures ok { OnOk result (self.new ≡ self.old ++ an_element bytes.now draws ∷ []) }
@@ -92,7 +91,7 @@ impl DrawnElements {
     }
 
     /// Moves a block to the end. A call that fails drops it and changes nothing.
-    pub fn push_block(&mut self, block: DrawnBlock) -> Result<(), OutOfMemory>
+    pub fn push_block(&mut self, block: DrawnBlock) -> Result<(), AllocError>
         requires { length self.old + length block ≤ 65536 }
         ensures ok { OnOk result (self.new ≡ self.old ++ block) }
         ensures err { OnErr result (self.new ≡ self.old) }
@@ -119,7 +118,7 @@ impl DrawnElements {
 
     /// Adds `count` elements, given as bytes of a record, by one copy to the last block. A call
     /// that fails changes nothing.
-    pub fn extend_spelled(&mut self, spelled: &[u8], count: u32) -> Result<(), OutOfMemory>
+    pub fn extend_spelled(&mut self, spelled: &[u8], count: u32) -> Result<(), AllocError>
         requires room { length self.old + count ≤ 65536 }
         requires spelled { (es : List DrawnElement) × (spelled.now ≡ spelled_all es)
             × (length es ≡ count) × All IsDrawn es }

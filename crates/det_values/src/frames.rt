@@ -1,8 +1,8 @@
 //! The frames of a run, one for each activation of its client.
 ghost use Rattle.std.specs.Prelude.{◌≡◌, IfOk};
 
-use crate::{Bytes, Bytes64, DrawnElements, Elements, OutOfMemory, RefusedAt, Samples};
-use std::alloc::Global;
+use crate::{Bytes, Bytes64, DrawnElements, Elements, RefusedAt, Samples};
+use std::alloc::{AllocError, Global};
 
 /// The input of one cycle: its time in nanoseconds, if known, and the samples that arrive in it.
 #[derive(Debug, PartialEq, Drop)]
@@ -13,7 +13,7 @@ pub struct CycleInput {
 
 impl CycleInput {
     /// A copy of the input.
-    pub fn try_clone(&self, alloc: Global) -> Result<CycleInput, OutOfMemory>
+    pub fn try_clone(&self, alloc: Global) -> Result<CycleInput, AllocError>
         ensures { IfOk result (λ copy. copy ≡ self.now) }
     {
         match self.samples.try_clone(alloc) {

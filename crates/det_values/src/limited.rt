@@ -4,8 +4,7 @@ ghost use Rattle.std.specs.Prelude.{◌≡◌, ℕ, ◌+◌, ◌<◌, ◌≤◌,
 ghost use Rattle.std.specs.Prelude.{slice_index_or, OnOk, OnErr, IsTrue, ◌↔◌};
 ghost use Rattle.std.specs.Cmp.Lexicographic.{pointwise, lists_per};
 
-use crate::OutOfMemory;
-use std::alloc::Global;
+use std::alloc::{AllocError, Global};
 use std::marker::Model;
 
 /// A list of at most `MOST` items. Contracts see the plain list.
@@ -51,7 +50,7 @@ impl<T, const MOST: usize> Limited<T, MOST> {
     }
 
     /// Adds an item at the end. A call that fails drops the item and changes nothing.
-    pub fn push(&mut self, item: T) -> Result<(), OutOfMemory>
+    pub fn push(&mut self, item: T) -> Result<(), AllocError>
     where
         T: Drop,
         requires { length self.old < MOST }
@@ -60,12 +59,12 @@ impl<T, const MOST: usize> Limited<T, MOST> {
     {
         match self.items.push(item) {
             Ok(()) => Ok(()),
-            Err(_) => Err(OutOfMemory),
+            Err(_) => Err(AllocError),
         }
     }
 
     /// Moves another list's items to the end. A call that fails drops them and changes nothing.
-    pub fn append(&mut self, mut more: Limited<T, MOST>) -> Result<(), OutOfMemory>
+    pub fn append(&mut self, mut more: Limited<T, MOST>) -> Result<(), AllocError>
     where
         T: Drop,
         requires { length self.old + length more ≤ MOST }
@@ -74,12 +73,12 @@ impl<T, const MOST: usize> Limited<T, MOST> {
     {
         match self.items.append(&mut more.items) {
             Ok(()) => Ok(()),
-            Err(_) => Err(OutOfMemory),
+            Err(_) => Err(AllocError),
         }
     }
 
     /// Adds copies of the items at the end. A call that fails changes nothing.
-    pub fn extend_from_slice(&mut self, items: &[T]) -> Result<(), OutOfMemory>
+    pub fn extend_from_slice(&mut self, items: &[T]) -> Result<(), AllocError>
     where
         T: Copy,
         requires { length self.old + length items.now ≤ MOST }
@@ -88,7 +87,7 @@ impl<T, const MOST: usize> Limited<T, MOST> {
     {
         match self.items.extend_from_slice(items) {
             Ok(()) => Ok(()),
-            Err(_) => Err(OutOfMemory),
+            Err(_) => Err(AllocError),
         }
     }
 
@@ -144,7 +143,7 @@ impl<T: Copy + Drop, const MOST: usize> Limited<T, MOST> {
     ghost use Rattle.std.specs.Prelude.{◌≡◌, IfOk};
 
     /// A copy of the list.
-    pub fn try_clone(&self, alloc: Global) -> Result<Limited<T, MOST>, OutOfMemory>
+    pub fn try_clone(&self, alloc: Global) -> Result<Limited<T, MOST>, AllocError>
         ensures { IfOk result (λ copy. copy ≡ self.now) }
     {
         let mut copy = Limited::new(alloc);

@@ -4,7 +4,6 @@ ghost use Rattle.std.specs.Vec.{vec_capacity};
 ghost use Rattle.det_values.specs.Spelling.{spelled_u16, spelled_u32, AreBytes, an_element};
 ghost use Rattle.det_values.specs.Spelling.{spelled_drawn, IsDrawn, Grows};
 
-use crate::OutOfMemory;
 use std::alloc::AllocError;
 
 /// Appends a number of two bytes, the high one first.
@@ -49,7 +48,7 @@ fn put_element_parts(out: &mut Vec<u8>, bytes: &[u8], draws: u32) -> Result<(), 
 }
 
 /// Appends an element with its draws. A call that fails leaves `out` as it was.
-pub fn put_drawn(out: &mut Vec<u8>, bytes: &[u8], draws: u32) -> Result<(), OutOfMemory>
+pub fn put_drawn(out: &mut Vec<u8>, bytes: &[u8], draws: u32) -> Result<(), AllocError>
     requires { length bytes.now ≤ 64 }
     ensures ok { OnOk result (out.new.items ≡ out.old.items
         ++ spelled_drawn (an_element bytes.now draws)) }
@@ -61,7 +60,7 @@ pub fn put_drawn(out: &mut Vec<u8>, bytes: &[u8], draws: u32) -> Result<(), OutO
         Ok(()) => Ok(()),
         Err(_) => {
             out.truncate(len);
-            Err(OutOfMemory)
+            Err(AllocError)
         }
     }
 }

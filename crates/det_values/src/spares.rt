@@ -1,8 +1,8 @@
 //! Memory of containers, kept for reuse in later passes and cycles.
 ghost use Rattle.std.specs.Prelude.{◌≡◌, ◌≤◌, [], IfOk};
 
-use crate::{Container, OutOfMemory};
-use std::alloc::Global;
+use crate::Container;
+use std::alloc::{AllocError, Global};
 
 /// Free blocks and containers, and the allocator for more. Their old contents are gone, so no
 /// clause is about what is kept here.
@@ -24,7 +24,7 @@ impl<E: Drop> Spares<E> {
     }
 
     /// An empty list: a spare one, or a new one with room for a block of 256 elements.
-    pub fn block(&mut self) -> Result<Vec<E>, OutOfMemory>
+    pub fn block(&mut self) -> Result<Vec<E>, AllocError>
         ensures { IfOk result (λ block. block.items ≡ []) }
     {
         if let Some(mut block) = self.blocks.pop() {
@@ -36,7 +36,7 @@ impl<E: Drop> Spares<E> {
 
     /// An empty container: a spare one, or a new one with room for the blocks of `elements`
     /// elements.
-    pub fn container(&mut self, elements: usize) -> Result<Container<E>, OutOfMemory>
+    pub fn container(&mut self, elements: usize) -> Result<Container<E>, AllocError>
         requires { elements ≤ 65536 }
         ensures { IfOk result (λ container. container ≡ []) }
     {

@@ -6,8 +6,7 @@ ghost use Rattle.frame_queue.specs.Queues.{places_of, paced_places};
 use crate::rule::{OrderRule, QueueView, Roles, Sends, Takes, Total};
 use crate::{Pace, Receiver, Rest, Row, Sender};
 use crossbeam_queue::RuledArrayQueue;
-use det_values::OutOfMemory;
-use std::alloc::Global;
+use std::alloc::{AllocError, Global};
 use std::sync::Wait;
 use std::thread;
 
@@ -25,7 +24,7 @@ pub struct FrameQueue {
 
 impl FrameQueue {
     /// An empty queue, with its sender and its receiver. All memory is allocated here.
-    pub fn new(alloc: Global) -> Result<(FrameQueue, Sender, Receiver), OutOfMemory>
+    pub fn new(alloc: Global) -> Result<(FrameQueue, Sender, Receiver), AllocError>
         ensures sender { IfOk result (λ made. IsSenderOf made.0 made.1) }
         ensures receiver { IfOk result (λ made. IsReceiverOf made.0 made.2) }
         ensures sent { IfOk result (λ made. sent_of made.1 ≡ []) }

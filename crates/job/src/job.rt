@@ -13,8 +13,8 @@ use crate::{BadParam, Conclusion, JobFault, JobStart};
 use det_client::element_random::ElementRandom;
 use det_client::{Activation, Client};
 use det_values::put::fill_u16;
-use det_values::{Bytes, Container, OutOfMemory, Params};
-use std::alloc::Global;
+use det_values::{Bytes, Container, Params};
+use std::alloc::{AllocError, Global};
 
 /// A cyclic application over a container of elements. Its parameters and the number of events
 /// determine it.
@@ -68,7 +68,7 @@ pub trait Job: Sized + Drop {
         &self,
         alloc: Global,
         client: &mut Client,
-    ) -> Result<JobStart<Self::Globals, Self::Element>, OutOfMemory>
+    ) -> Result<JobStart<Self::Globals, Self::Element>, AllocError>
         requires init { client.old.last ≡ Some Activation.Init }
         requires beginning { StandsFor client.old.own (key client.old.seed 0 255 0) 0 }
         ensures gives { IfOk result (λ begun. meaning.started self.now client.old.seed
@@ -147,7 +147,7 @@ pub trait Job: Sized + Drop {
 
     /// Joins the part of the right neighbour to `left`. The rest of `right` is only kept for its
     /// memory.
-    fn merge(&self, left: &mut Self::Part, right: &mut Self::Part) -> Result<(), OutOfMemory>
+    fn merge(&self, left: &mut Self::Part, right: &mut Self::Part) -> Result<(), AllocError>
         requires { CoverTogether (Covers self.now) left.old right.old }
         ensures gives { OnOk result (left.new ≡ meaning.joined self.now left.old right.old) }
         ensures covers { OnOk result (
@@ -156,7 +156,7 @@ pub trait Job: Sized + Drop {
     /// Appends an element's bytes for a record, at most 64. Different elements of the job have
     /// different bytes. A call that fails may leave some of them. It needs no memory if `out` has
     /// room for 64 bytes.
-    fn put_element(&self, element: &Self::Element, out: &mut Vec<u8>) -> Result<(), OutOfMemory>
+    fn put_element(&self, element: &Self::Element, out: &mut Vec<u8>) -> Result<(), AllocError>
         requires { Own self.now element.now }
         ensures ok { OnOk result (out.new.items ≡ out.old.items
             ++ meaning.shown self.now element.now) }
@@ -174,7 +174,7 @@ pub trait Job: Sized + Drop {
         element: &Self::Element,
         draws: u32,
         out: &mut Vec<u8>,
-    ) -> Result<(), OutOfMemory>
+    ) -> Result<(), AllocError>
         requires { Own self.now element.now }
         ensures ok { OnOk result (out.new.items ≡ out.old.items
             ++ spelled_drawn (an_element (meaning.shown self.now element.now) draws)) }

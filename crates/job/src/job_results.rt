@@ -1,6 +1,7 @@
 //! The results and errors of a job's calls.
 
-use det_values::{Bytes, Container, OutOfMemory};
+use det_values::{Bytes, Container};
+use std::alloc::AllocError;
 
 /// A parameter that a job refuses, by its index, counted from 0.
 ///
@@ -20,13 +21,13 @@ pub enum JobFault {
     OutOfMemory,
 }
 
-impl From<OutOfMemory> for JobFault {
+impl From<AllocError> for JobFault {
     ghost use Rattle.std.specs.Prelude.{◌≡◌};
     ghost use Rattle.job.specs.declared.job_results.JobFault.TheVariants as faults;
 
     ghost from_gives = { λ _ fault. fault ≡ faults.OutOfMemory };
 
-    fn from(_: OutOfMemory) -> JobFault {
+    fn from(_: AllocError) -> JobFault {
         JobFault::OutOfMemory
     }
 }

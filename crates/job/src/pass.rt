@@ -5,8 +5,8 @@ ghost use Rattle.job.specs.Passes.{blocks_in};
 
 use crate::Job;
 use crate::block_sizes::{block_count, block_size};
-use det_values::{Container, DrawnElements, OutOfMemory};
-use std::alloc::Global;
+use det_values::{Container, DrawnElements};
+use std::alloc::{AllocError, Global};
 use std::marker::Model;
 use std::sync::Arc;
 
@@ -137,13 +137,13 @@ pub enum PoolFault {
     OutOfMemory,
 }
 
-impl From<OutOfMemory> for PoolFault {
+impl From<AllocError> for PoolFault {
     ghost use Rattle.std.specs.Prelude.{◌≡◌};
     ghost use Rattle.job.specs.declared.pass.PoolFault.TheVariants as faults;
 
     ghost from_gives = { λ _ fault. fault ≡ faults.OutOfMemory };
 
-    fn from(_: OutOfMemory) -> PoolFault {
+    fn from(_: AllocError) -> PoolFault {
         PoolFault::OutOfMemory
     }
 }

@@ -5,9 +5,9 @@ ghost use Rattle.job.specs.Laws.{CoverTogether, CoversBoth};
 ghost use Rattle.job_heavy.specs.Meaning.{output};
 ghost use Rattle.job_heavy.specs.Ranges.{IsCountOf};
 
-use det_values::{Bytes, OutOfMemory};
+use det_values::Bytes;
 use job_shared::empty_output;
-use std::alloc::Global;
+use std::alloc::{AllocError, Global};
 
 /// The sum of two counts.
 pub(crate) fn add_counts(left: u64, right: u64) -> u64
@@ -23,7 +23,7 @@ pub(crate) fn output(
     count: u64,
     alloc: Global,
     spare: &mut Option<Bytes>,
-) -> Result<Bytes, OutOfMemory>
+) -> Result<Bytes, AllocError>
     ensures { IfOk result (λ bytes. bytes ≡ output count) }
 {
     let mut bytes = empty_output(alloc, spare, 8)?;

@@ -5,11 +5,11 @@ use crate::state::fold_words;
 use crate::{Heavy, State};
 use det_client::Client;
 use det_client::element_random::ElementRandom;
-use det_values::{Bytes, Container, OutOfMemory, Params};
+use det_values::{Bytes, Container, Params};
 use job::event_cache::EventCache;
 use job::{BadParam, Conclusion, Job, JobFault, JobStart};
 use job_shared::{first_elements, natural_param, no_more_params};
-use std::alloc::Global;
+use std::alloc::{AllocError, Global};
 
 /// The job keeps nothing between cycles besides its elements.
 #[derive(Clone, Copy, Debug, PartialEq, Eq, Drop)]
@@ -54,7 +54,7 @@ impl Job for Heavy {
         &self,
         alloc: Global,
         _client: &mut Client,
-    ) -> Result<JobStart<NoGlobals, State>, OutOfMemory> {
+    ) -> Result<JobStart<NoGlobals, State>, AllocError> {
         Ok(JobStart {
             globals: NoGlobals,
             elements: first_elements(alloc, self, self.elements)?,
@@ -97,13 +97,13 @@ impl Job for Heavy {
         })
     }
 
-    fn merge(&self, left: &mut u64, right: &mut u64) -> Result<(), OutOfMemory> {
+    fn merge(&self, left: &mut u64, right: &mut u64) -> Result<(), AllocError> {
         *left = add_counts(*left, *right);
         Ok(())
     }
 
     #[inline(always)]
-    fn put_element(&self, element: &State, out: &mut Vec<u8>) -> Result<(), OutOfMemory> {
+    fn put_element(&self, element: &State, out: &mut Vec<u8>) -> Result<(), AllocError> {
         Ok(out.extend_from_slice(&element.folded.to_be_bytes())?)
     }
 

@@ -5,8 +5,8 @@ ghost use Rattle.std.specs.List.{range_with_len};
 ghost use Rattle.std.specs.Vec.{vec_capacity, vec_len};
 ghost use Rattle.det_values.specs.Spelling.{an_element, spelled_drawn};
 
-use det_values::{Container, OutOfMemory};
-use std::alloc::Global;
+use det_values::Container;
+use std::alloc::{AllocError, Global};
 
 /// An element that a job makes from its number alone, counted from 0.
 pub trait FirstElement<J>: Sized + Drop {
@@ -24,7 +24,7 @@ pub fn first_elements<J, E: FirstElement<J>>(
     alloc: Global,
     job: &J,
     count: u32,
-) -> Result<Container<E>, OutOfMemory>
+) -> Result<Container<E>, AllocError>
     requires { count ≤ 65536 }
     ensures elements { IfOk result (λ elements.
         elements ≡ map (E.first job.now) (range_with_len 0 count)) }
@@ -43,7 +43,7 @@ const MOST_DRAWN: usize = 70;
 /// Appends an element's bytes, after their number and before its draws, by one append.
 #[inline(always)]
 #[tactic(auto, unfolding(det_values::specs::Spelling::spelled_u16, det_values::specs::Spelling::spelled_u32, det_values::specs::Spelling::spelled_drawn))]
-pub fn put_drawn_bytes(bytes: &[u8], draws: u32, out: &mut Vec<u8>) -> Result<(), OutOfMemory>
+pub fn put_drawn_bytes(bytes: &[u8], draws: u32, out: &mut Vec<u8>) -> Result<(), AllocError>
     requires { length bytes.now ≤ 64 }
     ensures ok { OnOk result (out.new.items ≡ out.old.items
         ++ spelled_drawn (an_element bytes.now draws)) }

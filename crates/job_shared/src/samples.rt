@@ -5,9 +5,9 @@ ghost use Rattle.job.specs.event_cache.Rings.{windows};
 ghost use Rattle.job_shared.specs.Samples.{newest_sample, all_newest, sample_of, AreSamples};
 ghost use Rattle.job_shared.specs.Samples.{IsSample};
 
-use det_values::{Limited, OutOfMemory};
+use det_values::Limited;
 use job::event_cache::EventCache;
-use std::alloc::Global;
+use std::alloc::{AllocError, Global};
 
 /// The newest sample of each event, or None if its window is empty.
 pub type NewestSamples = Limited<Option<i64>, 256>;
@@ -29,7 +29,7 @@ fn empty_samples(
     alloc: Global,
     events: u16,
     spare: Option<NewestSamples>,
-) -> Result<NewestSamples, OutOfMemory>
+) -> Result<NewestSamples, AllocError>
     ensures { IfOk result (λ samples. samples ≡ []) }
 {
     match spare {
@@ -46,7 +46,7 @@ pub fn newest_samples(
     alloc: Global,
     cache: &EventCache,
     spare: Option<NewestSamples>,
-) -> Result<NewestSamples, OutOfMemory>
+) -> Result<NewestSamples, AllocError>
     ensures samples { IfOk result (λ samples. samples ≡ all_newest (windows cache.now)) }
     ensures limits { (events : ℕ) → length (windows cache.now) ≡ events
         → IfOk result (AreSamples events) }

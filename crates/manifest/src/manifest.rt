@@ -7,8 +7,8 @@ ghost use Rattle.manifest.specs.Faults.{first_duplicate};
 ghost use Rattle.manifest.specs.Profiles.{profile_of};
 
 use crate::{Needs, PlatformName};
-use det_values::{Events, Format, JobKind, OutOfMemory, Params, Profile};
-use std::alloc::Global;
+use det_values::{Events, Format, JobKind, Params, Profile};
+use std::alloc::{AllocError, Global};
 use std::marker::Model;
 
 /// A manifest without a fault. Its events have different names.
@@ -54,7 +54,7 @@ impl Model for Manifest {
 impl Manifest {
     /// The profile of a client with this seed. Its format is 2, and its cycle time is from 1 to
     /// 2^63 - 1 nanoseconds.
-    pub fn profile(&self, alloc: Global, seed: u64) -> Result<Profile, OutOfMemory>
+    pub fn profile(&self, alloc: Global, seed: u64) -> Result<Profile, AllocError>
         ensures profile { IfOk result (λ p. p ≡ profile_of self.now seed) }
         ensures cycle_time { IsCycleTime self.now.cycle_time }
         ensures events { All IsEvent self.now.events }

@@ -1,6 +1,6 @@
 //! The faults of a manifest.
 use crate::{Key, UnknownKey};
-use det_values::OutOfMemory;
+use std::alloc::AllocError;
 use thiserror::Error;
 
 /// The first fault of a manifest. Keys are checked in a fixed order, each for its presence, its
@@ -54,13 +54,13 @@ impl From<ManifestFault> for ManifestError {
     }
 }
 
-impl From<OutOfMemory> for ManifestError {
+impl From<AllocError> for ManifestError {
     ghost use Rattle.std.specs.Prelude.{◌≡◌};
     ghost use Rattle.manifest.specs.declared.manifest_fault.ManifestError.TheVariants as error;
 
     ghost from_gives = { λ _ e. e ≡ error.OutOfMemory };
 
-    fn from(_: OutOfMemory) -> ManifestError {
+    fn from(_: AllocError) -> ManifestError {
         ManifestError::OutOfMemory
     }
 }

@@ -9,18 +9,17 @@ ghost use Rattle.pass_in_blocks.specs.Steps.{HasKeys, HasRoom, pass_result, adde
 use crate::block_answer::{BlockAnswer, BlockDone};
 use crate::show_block::show_block;
 use det_client::element_random::{ElementRandom, PassKeys};
-use det_values::OutOfMemory;
 use job::{Job, JobFault, PassRef, PassRoom, PoolFault};
-use std::alloc::Global;
+use std::alloc::{AllocError, Global};
 
 /// Adds an item at the end of a list.
 #[inline(always)]
-pub(crate) fn push<T: Drop>(list: &mut Vec<T>, item: T) -> Result<(), OutOfMemory>
+pub(crate) fn push<T: Drop>(list: &mut Vec<T>, item: T) -> Result<(), AllocError>
     ensures { OnOk result (list.new.items ≡ list.old.items ++ item ∷ []) }
 {
     match list.push(item) {
         Ok(()) => Ok(()),
-        Err(_) => Err(OutOfMemory),
+        Err(_) => Err(AllocError),
     }
 }
 
@@ -89,7 +88,7 @@ pub fn run_block<J: Job>(
     pass: &PassRef<'_, J>,
     block: u32,
     room: &mut PassRoom<J::Element, J::Part>,
-) -> Result<BlockAnswer<J::Element, J::Part>, OutOfMemory>
+) -> Result<BlockAnswer<J::Element, J::Part>, AllocError>
     requires ready { IsReady J.meaning J.Covers J.Own J.Fit pass.now }
     requires inside { block < blocks_in pass.now }
     ensures answer { IfOk result (λ answer. answer_of answer ≡ block_in J.meaning pass.now block) }
@@ -115,7 +114,7 @@ pub fn run_block<J: Job>(
                     room.keep_part(part);
                     return Ok(BlockAnswer::Refused { element, code });
                 }
-                PoolFault::OutOfMemory => return Err(OutOfMemory),
+                PoolFault::OutOfMemory => return Err(AllocError),
             },
         }
     }

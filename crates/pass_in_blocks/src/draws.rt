@@ -3,14 +3,15 @@ ghost use Rattle.std.specs.Prelude.{◌≡◌, ◌≤◌, length, IfOk};
 ghost use Rattle.std.specs.List.{All};
 ghost use Rattle.job.specs.Cycle.{added};
 
-use det_values::{Container, OutOfMemory, Spares};
+use det_values::{Container, Spares};
+use std::alloc::AllocError;
 
 /// The sums of two blocks, number by number, in spare memory.
 pub(crate) fn block_sums(
     left: &[u32],
     right: &[u32],
     spares: &mut Spares<u32>,
-) -> Result<Vec<u32>, OutOfMemory>
+) -> Result<Vec<u32>, AllocError>
     requires equal { length left.now ≡ length right.now }
     requires left { All (λ n. n ≤ 458745) left.now }
     requires right { All (λ n. n ≤ 65535) right.now }
@@ -18,7 +19,7 @@ pub(crate) fn block_sums(
 {
     let mut draw_sums = spares.block()?;
     for i in 0..left.len() {
-        draw_sums.push(left[i] + right[i]).map_err(|_| OutOfMemory)?;
+        draw_sums.push(left[i] + right[i]).map_err(|_| AllocError)?;
     }
     Ok(draw_sums)
 }
@@ -28,7 +29,7 @@ pub fn draw_sums(
     left: &Container<u32>,
     right: &Container<u32>,
     spares: &mut Spares<u32>,
-) -> Result<Container<u32>, OutOfMemory>
+) -> Result<Container<u32>, AllocError>
     requires equal { length left.now ≡ length right.now }
     requires left { All (λ n. n ≤ 458745) left.now }
     requires right { All (λ n. n ≤ 65535) right.now }

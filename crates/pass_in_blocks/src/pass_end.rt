@@ -9,12 +9,12 @@ ghost use Rattle.pass_in_blocks.specs.Steps.{beside, none_in, CanJoin, ArePlaces
 
 use crate::block_answer::{BlockAnswer, BlockDone, BlockResult};
 use crate::block_run::{push, run_block};
-use det_values::{DrawnElements, OutOfMemory};
+use det_values::DrawnElements;
 use job::{Job, PassDone, PassRef, PassRoom, PoolFault};
-use std::alloc::Global;
+use std::alloc::{AllocError, Global};
 
 /// A list of `count` empty places.
-fn empty_places<T: Drop>(alloc: Global, count: usize) -> Result<Vec<Option<T>>, OutOfMemory>
+fn empty_places<T: Drop>(alloc: Global, count: usize) -> Result<Vec<Option<T>>, AllocError>
     ensures { IfOk result (λ places. places.items ≡ replicate count None) }
 {
     let mut places = Vec::with_capacity(alloc, count)?;
@@ -37,7 +37,7 @@ fn results_by_block<J: Job>(
     alloc: Global,
     pass: &PassRef<'_, J>,
     mut results: Vec<BlockResult<J::Element, J::Part>>,
-) -> Result<Vec<Option<BlockAnswer<J::Element, J::Part>>>, OutOfMemory>
+) -> Result<Vec<Option<BlockAnswer<J::Element, J::Part>>>, AllocError>
     requires right { AreRight (block_in J.meaning pass.now) (blocks_in pass.now) results.items }
     requires shown { AreShown (shown_in J.meaning pass.now) results.items }
     ensures { IfOk result (λ places. ArePlaces (block_in J.meaning pass.now)
@@ -59,7 +59,7 @@ fn take_or_run_block<J: Job>(
     places: &mut Vec<Option<BlockAnswer<J::Element, J::Part>>>,
     block: u32,
     room: &mut PassRoom<J::Element, J::Part>,
-) -> Result<BlockAnswer<J::Element, J::Part>, OutOfMemory>
+) -> Result<BlockAnswer<J::Element, J::Part>, AllocError>
     requires ready { IsReady J.meaning J.Covers J.Own J.Fit pass.now }
     requires inside { block < blocks_in pass.now }
     requires places { ArePlaces (block_in J.meaning pass.now) (shown_in J.meaning pass.now)
@@ -82,7 +82,7 @@ fn take_or_run_block<J: Job>(
 fn begin_pass<J: Job>(
     pass: &PassRef<'_, J>,
     room: &mut PassRoom<J::Element, J::Part>,
-) -> Result<PassDone<J::Element, J::Part>, OutOfMemory>
+) -> Result<PassDone<J::Element, J::Part>, AllocError>
     ensures passed { IfOk result (λ begun. pass_result_of begun ≡ none_in J.meaning pass.now) }
     ensures shown { IfOk result (λ begun. begun.shown ≡ []) }
 {
@@ -104,7 +104,7 @@ fn join_block<J: Job>(
     all: &mut PassDone<J::Element, J::Part>,
     done: BlockDone<J::Element, J::Part>,
     room: &mut PassRoom<J::Element, J::Part>,
-) -> Result<(), OutOfMemory>
+) -> Result<(), AllocError>
     requires joins { CanJoin J.Covers job.now (pass_result_of all.old) (left_by done) }
     requires shown { length all.old.shown + length done.shown ≤ 65536 }
     ensures passed { OnOk result (pass_result_of all.new

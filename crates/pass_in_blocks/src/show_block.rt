@@ -8,8 +8,9 @@ ghost use Rattle.pass_in_blocks.specs.ShownElements.{AreSpelled, shown_by, shown
 ghost use Rattle.pass_in_blocks.specs.Steps.{pass_result};
 
 use crate::draws::block_sums;
-use det_values::{DrawnBlock, OutOfMemory, Spares};
+use det_values::{DrawnBlock, Spares};
 use job::{Job, PassRef, PassRoom};
+use std::alloc::AllocError;
 
 /// Appends an element with its draws.
 #[inline(always)]
@@ -18,7 +19,7 @@ fn put_drawn_element<J: Job>(
     element: &J::Element,
     draws: u32,
     out: &mut Vec<u8>,
-) -> Result<(), OutOfMemory>
+) -> Result<(), AllocError>
     requires { J.Own job.now element.now }
     ensures ok { OnOk result (out.new.items ≡ out.old.items
         ++ spelled_drawn (an_element (J.meaning.shown job.now element.now) draws)) }
@@ -35,7 +36,7 @@ fn put_block<J: Job>(
     elements: &[J::Element],
     draws: &[u32],
     out: &mut Vec<u8>,
-) -> Result<(), OutOfMemory>
+) -> Result<(), AllocError>
     requires own { All (J.Own job.now) elements.now }
     requires drew { length draws.now ≡ length elements.now }
     ensures ok { OnOk result (out.new.items ≡ out.old.items
@@ -57,7 +58,7 @@ fn put_block_result<J: Job>(
     draws: &[u32],
     spares: &mut Spares<u32>,
     out: &mut Vec<u8>,
-) -> Result<(), OutOfMemory>
+) -> Result<(), AllocError>
     requires ready { IsReady J.meaning J.Covers J.Own J.Fit pass.now }
     requires inside { block < blocks_in pass.now }
     requires done { (part : J.Part)
@@ -80,7 +81,7 @@ fn room_for<J: Job>(
     element: &J::Element,
     count: usize,
     mut bytes: Vec<u8>,
-) -> Result<Vec<u8>, OutOfMemory>
+) -> Result<Vec<u8>, AllocError>
     requires own { J.Own job.now element.now }
     requires few { count ≤ 256 }
     requires none { bytes.items ≡ [] }
@@ -102,7 +103,7 @@ pub(crate) fn show_block<J: Job>(
     elements: &[J::Element],
     draws: &[u32],
     room: &mut PassRoom<J::Element, J::Part>,
-) -> Result<DrawnBlock, OutOfMemory>
+) -> Result<DrawnBlock, AllocError>
     requires ready { IsReady J.meaning J.Covers J.Own J.Fit pass.now }
     requires inside { block < blocks_in pass.now }
     requires done { (part : J.Part)

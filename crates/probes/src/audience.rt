@@ -4,8 +4,8 @@ ghost use Rattle.std.specs.Vec.{vec_len};
 
 use crate::probe::Probe;
 use crate::probe_list::{finish_all, show_to_probes};
-use det_values::{Bytes, OutOfMemory, RunFrame};
-use std::alloc::Global;
+use det_values::{Bytes, RunFrame};
+use std::alloc::{AllocError, Global};
 
 /// Probes that see the runs of a record, and the reports of those that have left.
 ///
@@ -39,7 +39,7 @@ impl Audience {
     /// Shows a run to each probe, in order. The report of a probe that leaves is appended to the
     /// reports, and the other probes keep their order. After an error only a part of the probes has
     /// seen the run.
-    pub fn show(&mut self, alloc: Global, run: &RunFrame) -> Result<(), OutOfMemory>
+    pub fn show(&mut self, alloc: Global, run: &RunFrame) -> Result<(), AllocError>
         ensures shown { OnOk result
             (Shows (seen (λ b. life b) self.old) (seen (λ b. life b) self.new) (run.now ∷ [])) }
         ensures partly { OnErr result
@@ -50,7 +50,7 @@ impl Audience {
 
     /// Appends the reports of all probes that are left, in order, and drops the probes. After an
     /// error only some reports were appended.
-    pub fn finish(&mut self, alloc: Global) -> Result<(), OutOfMemory>
+    pub fn finish(&mut self, alloc: Global) -> Result<(), AllocError>
         ensures left { OnOk result ((seen (λ b. life b) self.new).left
             ≡ reported (seen (λ b. life b) self.old) []) }
         ensures none { (seen (λ b. life b) self.new).seeing ≡ [] }

@@ -4,8 +4,8 @@ ghost use Rattle.probes.specs.Shipped.{count_life};
 
 use crate::probe::{Probe, ProbeStep};
 use crate::report_lines::count_report_line;
-use det_values::{Bytes, OutOfMemory, Outcome, RunFrame};
-use std::alloc::Global;
+use det_values::{Bytes, Outcome, RunFrame};
+use std::alloc::{AllocError, Global};
 
 /// Reports how many runs finished and how many were refused. It never leaves. The counts saturate.
 #[derive(Debug, Drop)]
@@ -37,7 +37,7 @@ impl Probe for CountProbe {
         ProbeStep::Stay
     }
 
-    fn report(&self, alloc: Global) -> Result<Bytes, OutOfMemory> {
+    fn report(&self, alloc: Global) -> Result<Bytes, AllocError> {
         count_report_line(alloc, self.finished, self.refused)
     }
 }

@@ -4,8 +4,8 @@ ghost use Rattle.probes.specs.Shipped.{refusal_life};
 
 use crate::probe::{Probe, ProbeStep};
 use crate::report_lines::refusal_report_line;
-use det_values::{Bytes, OutOfMemory, Outcome, RefusedAt, RunFrame};
-use std::alloc::Global;
+use det_values::{Bytes, Outcome, RefusedAt, RunFrame};
+use std::alloc::{AllocError, Global};
 
 /// Leaves at the first refused run, and reports its number and where it was refused.
 #[derive(Debug, Drop)]
@@ -37,7 +37,7 @@ impl Probe for FirstRefusalProbe {
         }
     }
 
-    fn report(&self, alloc: Global) -> Result<Bytes, OutOfMemory> {
+    fn report(&self, alloc: Global) -> Result<Bytes, AllocError> {
         refusal_report_line(alloc, self.seen, &self.at)
     }
 }

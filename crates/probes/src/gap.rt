@@ -4,8 +4,8 @@ ghost use Rattle.probes.specs.Shipped.{gap_life, gap_between, greater};
 
 use crate::probe::{Probe, ProbeStep};
 use crate::report_lines::gap_report_line;
-use det_values::{Bytes, OutOfMemory, RunFrame};
-use std::alloc::Global;
+use det_values::{Bytes, RunFrame};
+use std::alloc::{AllocError, Global};
 
 /// Reports the longest time from one run to the next, in nanoseconds. Pairs in which a time is
 /// unknown, or in which the second is earlier, don't count. It never leaves.
@@ -54,7 +54,7 @@ impl Probe for GapProbe {
         ProbeStep::Stay
     }
 
-    fn report(&self, alloc: Global) -> Result<Bytes, OutOfMemory> {
+    fn report(&self, alloc: Global) -> Result<Bytes, AllocError> {
         gap_report_line(alloc, self.gap)
     }
 }

@@ -4,8 +4,8 @@ ghost use Rattle.probes.specs.Shipped.{limit_life};
 
 use crate::probe::{Probe, ProbeStep};
 use crate::report_lines::limit_report_line;
-use det_values::{Bytes, OutOfMemory, Outcome, RunFrame};
-use std::alloc::Global;
+use det_values::{Bytes, Outcome, RunFrame};
+use std::alloc::{AllocError, Global};
 
 /// Leaves at run number `most`, counted from 1. Reports how many runs it saw, and how many of them
 /// were refused.
@@ -44,7 +44,7 @@ impl Probe for LimitProbe {
         ProbeStep::Stay
     }
 
-    fn report(&self, alloc: Global) -> Result<Bytes, OutOfMemory> {
+    fn report(&self, alloc: Global) -> Result<Bytes, AllocError> {
         limit_report_line(alloc, self.seen, self.refused)
     }
 }

@@ -2,8 +2,8 @@
 ghost use Rattle.std.specs.Prelude.{◌≡◌, ◌≤◌, ◌∷◌, [], length, IfOk, Some, None, ◌↔◌};
 ghost use Rattle.probes.specs.Reports.{ProbeLife, Sees, leaves};
 
-use det_values::{Bytes, OutOfMemory, RunFrame};
-use std::alloc::Global;
+use det_values::{Bytes, RunFrame};
+use std::alloc::{AllocError, Global};
 
 /// Whether a probe stays for the next run.
 #[derive(Clone, Copy, Debug, PartialEq, Eq, Drop)]
@@ -26,7 +26,7 @@ pub trait Probe: Drop {
             ≡ Some 1) };
 
     /// The report on the runs that it saw, in at most 256 bytes.
-    fn report(&self, alloc: Global) -> Result<Bytes, OutOfMemory>
+    fn report(&self, alloc: Global) -> Result<Bytes, AllocError>
         ensures bytes { IfOk result (λ bytes. bytes ≡ (life self.now).report_after []) }
         ensures short { IfOk result (λ bytes. length bytes ≤ 256) }
         ensures stays { leaves (life self.now) [] ≡ None };

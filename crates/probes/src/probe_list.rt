@@ -7,8 +7,8 @@ ghost use Rattle.probes.specs.Reports.{reports, Sees, leaves};
 ghost use Rattle.probes.specs.Shows.{Shows, ShowsPartly};
 
 use crate::probe::{Probe, ProbeStep};
-use det_values::{Bytes, OutOfMemory, RunFrame};
-use std::alloc::Global;
+use det_values::{Bytes, RunFrame};
+use std::alloc::{AllocError, Global};
 
 fn see_one(probe: &mut Box<dyn Probe>, run: &RunFrame) -> ProbeStep
     ensures { Sees result (life probe.old) (life probe.new) run.now }
@@ -16,7 +16,7 @@ fn see_one(probe: &mut Box<dyn Probe>, run: &RunFrame) -> ProbeStep
     probe.see(run)
 }
 
-fn report_one(alloc: Global, probe: &Box<dyn Probe>) -> Result<Bytes, OutOfMemory>
+fn report_one(alloc: Global, probe: &Box<dyn Probe>) -> Result<Bytes, AllocError>
     ensures bytes { IfOk result (λ bytes. bytes ≡ (life probe.now).report_after []) }
     ensures short { IfOk result (λ bytes. length bytes ≤ 256) }
     ensures stays { leaves (life probe.now) [] ≡ None }
@@ -32,7 +32,7 @@ pub(crate) fn show_to_probes(
     probes: &mut Vec<Box<dyn Probe>>,
     left: &mut Bytes,
     run: &RunFrame,
-) -> Result<(), OutOfMemory>
+) -> Result<(), AllocError>
     requires { length left.old + 256 * vec_len probes.old ≤ 1048576 }
     ensures shown { OnOk result (Shows
         (record { seeing = map (λ b. life b) probes.old.items; left = left.old })
@@ -64,7 +64,7 @@ fn report_all(
     alloc: Global,
     probes: &Vec<Box<dyn Probe>>,
     left: &mut Bytes,
-) -> Result<(), OutOfMemory>
+) -> Result<(), AllocError>
     requires { length left.old + 256 * vec_len probes.now ≤ 1048576 }
     ensures left { OnOk result
         (left.new ≡ left.old ++ reports (map (λ b. life b) probes.now.items) []) }
@@ -83,7 +83,7 @@ pub(crate) fn finish_all(
     alloc: Global,
     probes: &mut Vec<Box<dyn Probe>>,
     left: &mut Bytes,
-) -> Result<(), OutOfMemory>
+) -> Result<(), AllocError>
     requires { length left.old + 256 * vec_len probes.old ≤ 1048576 }
     ensures left { OnOk result
         (left.new ≡ left.old ++ reports (map (λ b. life b) probes.old.items) []) }

@@ -3,8 +3,8 @@ ghost use Rattle.std.specs.Prelude.{◌≡◌, ◌≤◌, length, IfOk, Some};
 ghost use Rattle.std.specs.String.{string_bytes};
 ghost use Rattle.probes.specs.Texts.{count_text, gap_text, limit_text, refusal_text};
 
-use det_values::{Bytes, OutOfMemory, Phase, RefusedAt};
-use std::alloc::Global;
+use det_values::{Bytes, Phase, RefusedAt};
+use std::alloc::{AllocError, Global};
 
 fn report_line_bytes(text: String) -> Bytes
     requires { length (string_bytes text) ≤ 256 }
@@ -15,7 +15,7 @@ fn report_line_bytes(text: String) -> Bytes
 }
 
 /// `count F R`: the numbers of finished and of refused runs.
-pub fn count_report_line(alloc: Global, finished: u32, refused: u32) -> Result<Bytes, OutOfMemory>
+pub fn count_report_line(alloc: Global, finished: u32, refused: u32) -> Result<Bytes, AllocError>
     ensures bytes { IfOk result (λ bytes. bytes ≡ count_text finished refused) }
     ensures short { IfOk result (λ bytes. length bytes ≤ 256) }
 {
@@ -23,7 +23,7 @@ pub fn count_report_line(alloc: Global, finished: u32, refused: u32) -> Result<B
     Ok(report_line_bytes(text))
 }
 
-fn gap_found_line(alloc: Global, gap: u64) -> Result<Bytes, OutOfMemory>
+fn gap_found_line(alloc: Global, gap: u64) -> Result<Bytes, AllocError>
     ensures bytes { IfOk result (λ bytes. bytes ≡ gap_text (Some gap)) }
     ensures short { IfOk result (λ bytes. length bytes ≤ 256) }
 {
@@ -32,7 +32,7 @@ fn gap_found_line(alloc: Global, gap: u64) -> Result<Bytes, OutOfMemory>
 }
 
 /// `gap G`, in nanoseconds, or `gap none`.
-pub fn gap_report_line(alloc: Global, gap: Option<u64>) -> Result<Bytes, OutOfMemory>
+pub fn gap_report_line(alloc: Global, gap: Option<u64>) -> Result<Bytes, AllocError>
     ensures bytes { IfOk result (λ bytes. bytes ≡ gap_text gap) }
     ensures short { IfOk result (λ bytes. length bytes ≤ 256) }
 {
@@ -46,7 +46,7 @@ pub fn gap_report_line(alloc: Global, gap: Option<u64>) -> Result<Bytes, OutOfMe
 }
 
 /// `limit M R`: the number of runs seen, and how many of them were refused.
-pub fn limit_report_line(alloc: Global, seen: u32, refused: u32) -> Result<Bytes, OutOfMemory>
+pub fn limit_report_line(alloc: Global, seen: u32, refused: u32) -> Result<Bytes, AllocError>
     ensures bytes { IfOk result (λ bytes. bytes ≡ limit_text seen refused) }
     ensures short { IfOk result (λ bytes. length bytes ≤ 256) }
 {
@@ -61,7 +61,7 @@ fn refusal_found_line(
     pass: u8,
     element: u32,
     code: u32,
-) -> Result<Bytes, OutOfMemory>
+) -> Result<Bytes, AllocError>
     ensures bytes { IfOk result
         (λ bytes. bytes ≡ refusal_text seen
         (Some (record { phase = phase; pass = pass; element = element; code = code }))) }
@@ -77,7 +77,7 @@ pub fn refusal_report_line(
     alloc: Global,
     seen: u32,
     at: &Option<RefusedAt>,
-) -> Result<Bytes, OutOfMemory>
+) -> Result<Bytes, AllocError>
     ensures bytes { IfOk result (λ bytes. bytes ≡ refusal_text seen at.now) }
     ensures short { IfOk result (λ bytes. length bytes ≤ 256) }
 {

@@ -4,11 +4,11 @@ use Rattle.det_values.specs.declared.frames.CycleInput.{CycleInput}
 use Rattle.det_values.specs.declared.frames.Frame.{Frame}
 use Rattle.det_values.specs.declared.frames.Frame.TheVariants.{Run}
 use Rattle.det_values.specs.declared.frames.RunFrame.{RunFrame}
-use Rattle.det_values.specs.declared.out_of_memory.OutOfMemory.{OutOfMemory}
+use Rattle.std.specs.declared.alloc.AllocError.{AllocError}
 use Rattle.record_codec.specs.declared.run_room.RunRoom.{RunRoom}
 
 -- the input of a Run frame is there, or the frame is of another kind
-abbrev pub InputFilled : Result Bool OutOfMemory → Frame → CycleInput → Type 0
+abbrev pub InputFilled : Result Bool AllocError → Frame → CycleInput → Type 0
 InputFilled (Ok true) (Run run) input = input ≡ run.input
 InputFilled (Ok true) frame input = ⊥
 InputFilled (Ok false) (Run run) input = ⊥
@@ -19,7 +19,7 @@ abbrev pub run_in : RunRoom → RunFrame
 run_in room = room.run
 
 -- the run of a Run frame is there, or the frame is of another kind
-abbrev pub RunFilled : Result Bool OutOfMemory → Frame → RunRoom → Type 0
+abbrev pub RunFilled : Result Bool AllocError → Frame → RunRoom → Type 0
 RunFilled (Ok true) (Run run) room = run_in room ≡ run
 RunFilled (Ok true) frame room = ⊥
 RunFilled (Ok false) (Run run) room = ⊥

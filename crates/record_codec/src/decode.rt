@@ -11,12 +11,12 @@ use crate::elements::decode_elements;
 use crate::fill_run::decode_run;
 use crate::header_stop::HeaderStop;
 use crate::read_header::profile;
-use det_values::{Frame, OutOfMemory, Profile};
+use det_values::{Frame, Profile};
 use record_view::{FrameKind, FrameView, ItemView, events_at, view_init_elements};
-use std::alloc::Global;
+use std::alloc::{AllocError, Global};
 
 /// The profile of a header, from the header's view and its bytes.
-pub fn decode_profile(alloc: Global, view: ItemView, bytes: &[u8]) -> Result<Profile, OutOfMemory>
+pub fn decode_profile(alloc: Global, view: ItemView, bytes: &[u8]) -> Result<Profile, AllocError>
     requires { (p : ProfileValue) × IsSpelling view (items.Header p) bytes.now }
     ensures { IfOk result (λ made. (p : ProfileValue)
         → IsSpelling view (items.Header p) bytes.now → made ≡ p) }
@@ -24,21 +24,21 @@ pub fn decode_profile(alloc: Global, view: ItemView, bytes: &[u8]) -> Result<Pro
     decode_header(alloc, bytes)
 }
 
-fn decode_header(alloc: Global, bytes: &[u8]) -> Result<Profile, OutOfMemory>
+fn decode_header(alloc: Global, bytes: &[u8]) -> Result<Profile, AllocError>
     requires { (p : ProfileValue) × (rest : List ℕ) × (profile_at bytes.now ≡ Got (p, rest)) }
     ensures { IfOk result (λ made. (p : ProfileValue) (rest : List ℕ)
         → profile_at bytes.now ≡ Got (p, rest) → made ≡ p) }
 {
     match profile(alloc, bytes) {
         Ok((profile, _)) => Ok(profile),
-        Err(HeaderStop::Memory) => Err(OutOfMemory),
+        Err(HeaderStop::Memory) => Err(AllocError),
         Err(HeaderStop::Bytes(_)) => unreachable!(),
     }
 }
 
 /// The frame of a view, as an owned value. The elements of a finished cycle in format 2 are copied
 /// as one block.
-pub fn frame_of(alloc: Global, view: FrameView, bytes: &[u8]) -> Result<Frame, OutOfMemory>
+pub fn frame_of(alloc: Global, view: FrameView, bytes: &[u8]) -> Result<Frame, AllocError>
     requires { (frame : FrameValue) × IsFrameSpelling view frame bytes.now }
     ensures { IfOk result (λ made. (frame : FrameValue) → IsFrameSpelling view frame bytes.now
         → made ≡ frame) }

@@ -6,12 +6,12 @@ ghost use Rattle.record_view.specs.Shows.{ShowsFinished};
 ghost use Rattle.record_view.specs.Parts.{ElementsOf};
 ghost use Rattle.record_codec.specs.Parts.{bytes_of};
 
-use det_values::{Bytes64, DrawnElements, Elements, Format, Limited, OutOfMemory};
+use det_values::{Bytes64, DrawnElements, Elements, Format, Limited};
 use record_view::{ElementWalk, view_elements};
-use std::alloc::Global;
+use std::alloc::{AllocError, Global};
 
 /// The bytes of the elements that a walk gives.
-pub fn decode_elements(alloc: Global, walk: ElementWalk<'_>) -> Result<Elements, OutOfMemory>
+pub fn decode_elements(alloc: Global, walk: ElementWalk<'_>) -> Result<Elements, AllocError>
     requires { length walk ≤ 65536 }
     ensures { IfOk result (λ made. made ≡ map bytes_of walk.entry) }
 {
@@ -34,7 +34,7 @@ pub fn fill_elements(
     at: usize,
     output_at: usize,
     bytes: &[u8],
-) -> Result<(), OutOfMemory>
+) -> Result<(), AllocError>
     requires shows { (len : ℕ) × (outcome : Outcome)
         × ShowsFinished format count at output_at len bytes.now outcome }
     requires few { count ≤ 65536 }
@@ -60,7 +60,7 @@ fn element_span(bytes: &[u8], from: usize, to: usize) -> &[u8]
 }
 
 /// Appends the elements that a walk gives, one by one.
-fn push_elements(elements: &mut DrawnElements, walk: ElementWalk<'_>) -> Result<(), OutOfMemory>
+fn push_elements(elements: &mut DrawnElements, walk: ElementWalk<'_>) -> Result<(), AllocError>
     requires { length elements.old + length walk ≤ 65536 }
     ensures { OnOk result (elements.new ≡ elements.old ++ walk.entry) }
 {

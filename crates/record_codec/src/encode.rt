@@ -12,11 +12,12 @@ ghost use Rattle.record_codec.specs.FinishedRun.{finished_run};
 
 use crate::put_frame::{put_frame, put_init_head, put_output, put_run_head};
 use crate::put_header::put_header;
-use det_values::{CycleInput, Format, Frame, OutOfMemory, Profile};
+use det_values::{CycleInput, Format, Frame, Profile};
+use std::alloc::AllocError;
 
 /// Appends the spelling of a header, in the profile's own format. On `OutOfMemory`, `out` is as
 /// before.
-pub fn encode_header(profile: &Profile, out: &mut Vec<u8>) -> Result<(), OutOfMemory>
+pub fn encode_header(profile: &Profile, out: &mut Vec<u8>) -> Result<(), AllocError>
     ensures ok { OnOk result (out.new.items ≡ out.old.items ++ spelled_header profile.now) }
     ensures fields { OnOk result (IsHeader profile.now) }
     ensures err { OnErr result (out.new.items ≡ out.old.items) }
@@ -26,7 +27,7 @@ pub fn encode_header(profile: &Profile, out: &mut Vec<u8>) -> Result<(), OutOfMe
         Ok(()) => Ok(()),
         Err(_) => {
             out.truncate(len);
-            Err(OutOfMemory)
+            Err(AllocError)
         }
     }
 }
@@ -38,7 +39,7 @@ pub fn encode_frame(
     events: u16,
     frame: &Frame,
     out: &mut Vec<u8>,
-) -> Result<(), OutOfMemory>
+) -> Result<(), AllocError>
     requires { CanSpell format events frame.now }
     ensures ok { OnOk result (out.new.items ≡ out.old.items ++ spelled_frame format frame.now) }
     ensures fields { OnOk result (IsFrame format events frame.now) }
@@ -49,7 +50,7 @@ pub fn encode_frame(
         Ok(()) => Ok(()),
         Err(_) => {
             out.truncate(len);
-            Err(OutOfMemory)
+            Err(AllocError)
         }
     }
 }
@@ -57,7 +58,7 @@ pub fn encode_frame(
 /// Appends what comes before the elements of an Init frame with `count` elements. On `OutOfMemory`,
 /// `out` may have a part of it.
 #[tactic(auto, unfolding(record_grammar::specs::Spelling::spelled_frame))]
-pub fn encode_init_head(count: u32, out: &mut Vec<u8>) -> Result<(), OutOfMemory>
+pub fn encode_init_head(count: u32, out: &mut Vec<u8>) -> Result<(), AllocError>
     ensures { OnOk result ((format : AnyFormat) (elements : List (List ℕ))
         → length elements ≡ count → out.new.items ++ flat_map spelled_element elements
         ≡ out.old.items ++ spelled_frame format (Frame.Init elements)) }
@@ -75,7 +76,7 @@ pub fn encode_run_ends(
     count: u32,
     output: &[u8],
     out: &mut Vec<u8>,
-) -> Result<usize, OutOfMemory>
+) -> Result<usize, AllocError>
     requires known { All (λ s. s.event < events) input.now.samples }
     requires short { length output.now ≤ 1048576 }
     ensures within { IfOk result (λ at. at ≤ length out.new.items) }

@@ -11,15 +11,13 @@ ghost use Rattle.record_codec.specs.Parts.{ShowsRun, FewElements, IsFinishedView
 ghost use Rattle.record_codec.specs.Parts.{IsShownOutcome};
 
 use crate::elements::fill_elements;
-use det_values::{
-    Bytes, CycleInput, DrawnElements, Format, Limited, OutOfMemory, Outcome, RunFrame, Samples,
-};
+use det_values::{Bytes, CycleInput, DrawnElements, Format, Limited, Outcome, RunFrame, Samples};
 use record_grammar::Place;
 use record_view::{
     InputView, OutcomeView, SampleWalk, events_at, format_at, view_output, view_refusal,
     view_samples,
 };
-use std::alloc::Global;
+use std::alloc::{AllocError, Global};
 
 /// A run without samples, elements and output. It takes no memory.
 pub fn empty_run(alloc: Global) -> RunFrame {
@@ -47,7 +45,7 @@ pub fn decode_run(
     input: InputView,
     outcome: OutcomeView,
     bytes: &[u8],
-) -> Result<RunFrame, OutOfMemory>
+) -> Result<RunFrame, AllocError>
     requires shows { (len : ℕ) × (run : RunValue)
         × ShowsRun place input outcome len bytes.now run }
     requires few { FewElements outcome }
@@ -66,7 +64,7 @@ pub fn fill_input(
     place: Place,
     view: InputView,
     bytes: &[u8],
-) -> Result<(), OutOfMemory>
+) -> Result<(), AllocError>
     requires { (shown : Input) × ShowsInput (events_of place) view bytes.now shown }
     ensures { OnOk result ((shown : Input) → ShowsInput (events_of place) view bytes.now shown
         → input.new ≡ shown) }
@@ -79,7 +77,7 @@ pub fn fill_input(
 }
 
 /// Replaces `samples` by those of a walk, one by one.
-fn fill_samples(samples: &mut Samples, walk: SampleWalk<'_>) -> Result<(), OutOfMemory>
+fn fill_samples(samples: &mut Samples, walk: SampleWalk<'_>) -> Result<(), AllocError>
     requires { length walk ≤ 4096 }
     ensures { OnOk result (samples.new ≡ walk.entry) }
 {
@@ -100,7 +98,7 @@ pub fn fill_outcome(
     place: Place,
     view: OutcomeView,
     bytes: &[u8],
-) -> Result<(), OutOfMemory>
+) -> Result<(), AllocError>
     requires shows { (len : ℕ) × (shown : OutcomeValue)
         × ShowsOutcome (format_of place) view len bytes.now shown }
     requires few { FewElements view }
@@ -143,7 +141,7 @@ fn fill_finished(
     outcome: &mut Outcome,
     view: FinishedView,
     bytes: &[u8],
-) -> Result<(), OutOfMemory>
+) -> Result<(), AllocError>
     requires { IsFinishedView view bytes.now }
     ensures { OnOk result (IsShownOutcome view bytes.now outcome.new) }
 {
@@ -159,7 +157,7 @@ fn fill_finished(
 }
 
 /// The outcome of a finished cycle, as an owned value.
-fn decode_finished(alloc: Global, view: FinishedView, bytes: &[u8]) -> Result<Outcome, OutOfMemory>
+fn decode_finished(alloc: Global, view: FinishedView, bytes: &[u8]) -> Result<Outcome, AllocError>
     requires { IsFinishedView view bytes.now }
     ensures { IfOk result (IsShownOutcome view bytes.now) }
 {
@@ -175,7 +173,7 @@ fn fill_finished_parts(
     output: &mut Bytes,
     view: FinishedView,
     bytes: &[u8],
-) -> Result<(), OutOfMemory>
+) -> Result<(), AllocError>
     requires { IsFinishedView view bytes.now }
     ensures { OnOk result (IsShownOutcome view bytes.now
         (outcomes.Finished elements.new output.new)) }
@@ -191,7 +189,7 @@ fn fill_finished_parts(
 }
 
 /// Replaces `output` by that of a finished cycle.
-fn fill_output(output: &mut Bytes, output_at: usize, bytes: &[u8]) -> Result<(), OutOfMemory>
+fn fill_output(output: &mut Bytes, output_at: usize, bytes: &[u8]) -> Result<(), AllocError>
     requires { (format : Format) × (count at len : ℕ) × (outcome : OutcomeValue)
         × ShowsFinished format count at output_at len bytes.now outcome }
     ensures { OnOk result ((format : Format) (count at len : ℕ) (outcome : OutcomeValue)

@@ -7,19 +7,15 @@ ghost use Rattle.record_codec.specs.Filled.{InputFilled, RunFilled};
 ghost use Rattle.record_codec.specs.Parts.{ShowsRun, FewElements};
 
 use crate::fill_run;
-use det_values::{CycleInput, OutOfMemory, Outcome, RunFrame};
+use det_values::{CycleInput, Outcome, RunFrame};
 use record_grammar::Place;
 use record_view::{FrameKind, FrameView, InputView, OutcomeView, events_at};
-use std::alloc::Global;
+use std::alloc::{AllocError, Global};
 use std::mem::swap;
 
 /// Replaces `input` by that of a Run frame, and reuses its memory. Returns false for a frame of
 /// another kind. After `OutOfMemory` a part of the samples may be there.
-pub fn fill_input(
-    input: &mut CycleInput,
-    view: FrameView,
-    bytes: &[u8],
-) -> Result<bool, OutOfMemory>
+pub fn fill_input(input: &mut CycleInput, view: FrameView, bytes: &[u8]) -> Result<bool, AllocError>
     requires { (frame : Frame) × IsFrameSpelling view frame bytes.now }
     ensures { (frame : Frame) → IsFrameSpelling view frame bytes.now
         → InputFilled result frame input.new }
@@ -56,7 +52,7 @@ impl RunRoom {
 
     /// Replaces the run by that of a Run frame. Returns false for a frame of another kind. After
     /// `OutOfMemory` the run is that of no frame.
-    pub fn fill(&mut self, view: FrameView, bytes: &[u8]) -> Result<bool, OutOfMemory>
+    pub fn fill(&mut self, view: FrameView, bytes: &[u8]) -> Result<bool, AllocError>
         requires { (frame : Frame) × IsFrameSpelling view frame bytes.now }
         ensures { (frame : Frame) → IsFrameSpelling view frame bytes.now
             → RunFilled result frame self.new }
@@ -87,7 +83,7 @@ impl RunRoom {
         input: InputView,
         outcome: OutcomeView,
         bytes: &[u8],
-    ) -> Result<(), OutOfMemory>
+    ) -> Result<(), AllocError>
         requires shows { (len : ℕ) × (run : RunValue)
             × ShowsRun place input outcome len bytes.now run }
         requires few { FewElements outcome }

@@ -17,7 +17,7 @@ ghost use Rattle.record_text.specs.Records.{element_line, outcome_lines, run_lin
 
 use crate::line_buffer::LineBuffer;
 use crate::put_text::{put_hex, put_number, put_number_line, put_signed, put_str};
-use det_values::{Format, OutOfMemory, RefusedAt, Sample};
+use det_values::{Format, RefusedAt, Sample};
 use record_grammar::Place;
 use record_view::{
     ElementWalk, FrameKind, FrameView, InputView, OutcomeView, SampleWalk, events_at, format_at,
@@ -251,7 +251,7 @@ pub fn put_frame_lines(
     cycle: u32,
     view: FrameView,
     bytes: &[u8],
-) -> Result<(), OutOfMemory>
+) -> Result<(), AllocError>
     requires { (frame : Frame) × IsFrameSpelling view frame bytes.now }
     ensures { OnOk result ((frame : Frame) → IsFrameSpelling view frame bytes.now
         → out.new.items ≡ out.old.items ++ frame_lines (format_of view.place) cycle frame) }

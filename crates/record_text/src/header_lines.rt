@@ -8,7 +8,7 @@ ghost use Rattle.record_text.specs.Records.{policy_text, format_line, event_line
 ghost use Rattle.record_text.specs.Records.{header_lines};
 
 use crate::put_text::{put_number, put_number_line, put_signed, put_str};
-use det_values::{EventSpec, Events, Format, OutOfMemory, Params, Policy, Profile};
+use det_values::{EventSpec, Events, Format, Params, Policy, Profile};
 use std::alloc::AllocError;
 
 fn put_spaced_params(out: &mut Vec<u8>, params: &[i64]) -> Result<(), AllocError>
@@ -109,7 +109,7 @@ fn put_front_lines(out: &mut Vec<u8>, profile: &Profile) -> Result<(), AllocErro
 /// Appends the lines of a header. They give its format if that is 2, the job's number, the seed,
 /// the cycle time in nanoseconds, the parameters and the events. After `OutOfMemory` a part of the
 /// lines may be there.
-pub fn put_header_lines(out: &mut Vec<u8>, profile: &Profile) -> Result<(), OutOfMemory>
+pub fn put_header_lines(out: &mut Vec<u8>, profile: &Profile) -> Result<(), AllocError>
     ensures { OnOk result (out.new.items ≡ out.old.items ++ header_lines profile.now) }
 {
     put_front_lines(out, profile)?;

@@ -4,7 +4,6 @@ ghost use Rattle.record_text.specs.Words.{number_line};
 ghost use Rattle.record_text.specs.Summaries.{digest_line, summary_lines};
 
 use crate::put_text::{put_hex, put_number_line, put_str};
-use det_values::OutOfMemory;
 use std::alloc::AllocError;
 
 /// The summary of a simulated run: its number, its cycles, and how many of them were refused. Of
@@ -28,7 +27,7 @@ fn put_digest_line(out: &mut Vec<u8>, digest: &[u8]) -> Result<(), AllocError>
 }
 
 /// Appends the lines of a summary. After `OutOfMemory` a part of the lines may be there.
-pub fn put_summary_lines(out: &mut Vec<u8>, summary: &Summary) -> Result<(), OutOfMemory>
+pub fn put_summary_lines(out: &mut Vec<u8>, summary: &Summary) -> Result<(), AllocError>
     ensures { OnOk result (out.new.items ≡ out.old.items ++ summary_lines summary.now) }
 {
     put_number_line(out, "sim", summary.number)?;
@@ -41,7 +40,7 @@ pub fn put_summary_lines(out: &mut Vec<u8>, summary: &Summary) -> Result<(), Out
 
 /// Appends the line of a salvaged record with `cycles` cycles. After `OutOfMemory` a part of it may
 /// be there.
-pub fn put_salvaged_line(out: &mut Vec<u8>, cycles: u32) -> Result<(), OutOfMemory>
+pub fn put_salvaged_line(out: &mut Vec<u8>, cycles: u32) -> Result<(), AllocError>
     ensures { OnOk result (out.new.items ≡ out.old.items ++ number_line (codes "salvaged") cycles) }
 {
     put_number_line(out, "salvaged", cycles as u64)?;

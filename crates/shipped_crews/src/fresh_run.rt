@@ -6,9 +6,10 @@ ghost use Rattle.worker_pool.specs.Crews.{room_name};
 
 use crate::workers::{Workers, workers_needed};
 use cycle_engine::Engine;
-use det_values::{OutOfMemory, Profile};
+use det_values::Profile;
 use job::Job;
 use recorder::run_writer::{Recording, Runner};
+use std::alloc::AllocError;
 use std::thread::Threads;
 use tickets::OfficeName;
 use worker_pool::{Crew, CrewRoom, Gate};
@@ -26,7 +27,7 @@ impl<'r, J: Job, R, G> FreshRun<'r, J, R, G> {
     pub(crate) fn new(
         workers: &Workers<'r, R, G>,
         profile: Profile,
-    ) -> Result<FreshRun<'r, J, R, G>, OutOfMemory>
+    ) -> Result<FreshRun<'r, J, R, G>, AllocError>
         requires good { J.meaning.bad_param profile.params (length profile.events) ≡ None }
         ensures new { IfOk result (λ fresh_run. IsNew J.meaning fresh_run.recording) }
         ensures profile { IfOk result (λ fresh_run. fresh_run.recording.profile ≡ profile) }
@@ -53,7 +54,7 @@ impl<'r, J: Job, R, G> FreshRun<'r, J, R, G> {
 /// Starts the threads of a crew in the room of a run.
 pub(crate) fn start_crew<J, N, R, G>(
     fresh_run: FreshRun<'_, J, R, G>,
-) -> Result<Runner<J, Crew<J, N, G>>, OutOfMemory>
+) -> Result<Runner<J, Crew<J, N, G>>, AllocError>
 where
     J: Job + Send + Sync + 'static,
     J::Globals: Send + 'static,

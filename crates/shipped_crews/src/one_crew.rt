@@ -10,11 +10,12 @@ use crate::fresh_run::{FreshRun, start_crew};
 use crate::visit::Visit;
 use crate::workers::Workers;
 use det_io::{Sink, Slots};
-use det_values::{JobKind, OutOfMemory, Profile};
+use det_values::{JobKind, Profile};
 use job::Job;
 use jobs::{Bank, Cloud, Guard};
 use probes::{Audience, Probe};
 use recorder::run_writer::Runner;
+use std::alloc::AllocError;
 use std::marker::Brand;
 use std::thread::Threads;
 use tickets::OfficeName;
@@ -35,7 +36,7 @@ fn visit_crew<J, N, V, S, K, R, G>(
     shelf: &mut S,
     sink: &mut K,
     audience: &mut Audience,
-) -> Result<V::Answer, OutOfMemory>
+) -> Result<V::Answer, AllocError>
 where
     J: Job + Send + Sync + 'static,
     J::Globals: Send + 'static,
@@ -77,7 +78,7 @@ pub fn with_crew<V, S, K, R, G>(
     shelf: &mut S,
     sink: &mut K,
     audience: &mut Audience,
-) -> Result<V::Answer, OutOfMemory>
+) -> Result<V::Answer, AllocError>
 where
     V: Visit,
     S: Slots,

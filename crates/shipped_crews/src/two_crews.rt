@@ -10,10 +10,11 @@ use crate::one_crew::ShippedRun;
 use crate::visit_two::VisitTwo;
 use crate::workers::Workers;
 use det_io::{Sink, Slots};
-use det_values::{JobKind, OutOfMemory};
+use det_values::JobKind;
 use job::{Job, Pool};
 use jobs::{Bank, Cloud, Guard};
 use recorder::run_writer::Runner;
+use std::alloc::AllocError;
 use std::marker::Brand;
 use std::thread::Threads;
 use tickets::OfficeName;
@@ -35,7 +36,7 @@ fn visit_second_crew<A, P, B, N, V, S, K, L, R, G>(
     shelf: &mut S,
     first_sink: &mut K,
     second_sink: &mut L,
-) -> Result<V::Answer, OutOfMemory>
+) -> Result<V::Answer, AllocError>
 where
     A: Job,
     P: Pool<A>,
@@ -78,7 +79,7 @@ fn visit_second_kind<A, P, V, S, K, L, R, G>(
     shelf: &mut S,
     first_sink: &mut K,
     second_sink: &mut L,
-) -> Result<V::Answer, OutOfMemory>
+) -> Result<V::Answer, AllocError>
 where
     A: Job,
     P: Pool<A>,
@@ -148,7 +149,7 @@ fn visit_first_crew<A, N, V, S, K, L, R, G>(
     shelf: &mut S,
     first_sink: &mut K,
     second_sink: &mut L,
-) -> Result<V::Answer, OutOfMemory>
+) -> Result<V::Answer, AllocError>
 where
     A: Job + Send + Sync + 'static,
     A::Globals: Send + 'static,
@@ -203,7 +204,7 @@ pub fn with_two_crews<V, S, K, L, R, G>(
     shelf: &mut S,
     first_sink: &mut K,
     second_sink: &mut L,
-) -> Result<V::Answer, OutOfMemory>
+) -> Result<V::Answer, AllocError>
 where
     V: VisitTwo,
     S: Slots,

@@ -4,7 +4,7 @@ ghost use Rattle.std.specs.Prelude.{◌≡◌, ◌≤◌, ◌+◌, ◌<◌, ℕ,
 ghost use Rattle.std.specs.String.{string_bytes};
 ghost use Rattle.stimulus.specs.GeneratedText.{state_at, word, made_value, block_text, made};
 
-use det_values::{Bytes, OutOfMemory};
+use det_values::Bytes;
 use rand_core::SeedableRng;
 use rand_core::utils::NextWord;
 use rand_xoshiro::SplitMix64;
@@ -29,7 +29,7 @@ fn block(alloc: Global, time: u64, first: i64, second: i64) -> Result<String, Al
 
 /// The stimulus of a number: 200 cycles, 10 ms apart, each with a sample of event 0 and one of
 /// event 1.
-pub fn generate_stimulus(alloc: Global, number: u64) -> Result<Bytes, OutOfMemory>
+pub fn generate_stimulus(alloc: Global, number: u64) -> Result<Bytes, AllocError>
     ensures { IfOk result (λ text. text ≡ made number) }
 {
     let mut words = SplitMix64::seed_from_u64(number);

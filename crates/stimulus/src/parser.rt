@@ -10,8 +10,8 @@ use crate::parse_line::{Line, parse_line};
 use crate::state::{AfterLine, State, take_line};
 use crate::stimulus_item::{StimulusError, StimulusFault, StimulusItem};
 use crate::wanted::Wanted;
-use det_values::{CycleInput, OutOfMemory};
-use std::alloc::Global;
+use det_values::CycleInput;
+use std::alloc::{AllocError, Global};
 use std::mem;
 
 /// Returns the blocks of a stimulus whose bytes are fed in pieces of any length.
@@ -68,7 +68,7 @@ impl StimulusParser {
 
     /// Takes the next bytes of the text. On `OutOfMemory` no byte is taken, and the reader goes on
     /// as before. Bytes after a bad line that was returned are dropped.
-    pub fn feed(&mut self, piece: &[u8]) -> Result<(), OutOfMemory>
+    pub fn feed(&mut self, piece: &[u8]) -> Result<(), AllocError>
         ensures events { self.new.events ≡ self.old.events }
         ensures ok { OnOk result ((bytes : List ℕ) (given : List StimulusItem)
             → StandsFor self.old bytes given → StandsFor self.new (bytes ++ piece.now) given) }
@@ -85,7 +85,7 @@ impl StimulusParser {
         let read = self.read;
         self.read = drop_read(&mut self.pending, read);
         if self.pending.extend_from_slice(piece).is_err() {
-            return Err(OutOfMemory);
+            return Err(AllocError);
         }
         self.settled = false;
         Ok(())

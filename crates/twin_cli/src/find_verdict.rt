@@ -15,11 +15,11 @@ use crate::options::{Flip, Twins};
 use crate::twin_answer::TwinAnswer;
 use copies::Verdict;
 use det_io::Shelf;
-use det_values::{Bytes, Frame, JobKind, OutOfMemory};
+use det_values::{Bytes, Frame, JobKind};
 use jobs::{Bank, Cloud, Guard};
 use manifest::Manifest;
 use run_setup::read_setup;
-use std::alloc::Global;
+use std::alloc::{AllocError, Global};
 use std::sync::Wait;
 use std::thread::Threads;
 use twins::{FlipTamper, Tamper, TwinRun, run_twins};
@@ -41,7 +41,7 @@ impl Tamper for MaybeFlip {
         copy: u32,
         number: u32,
         frame: Frame,
-    ) -> Result<Frame, OutOfMemory> {
+    ) -> Result<Frame, AllocError> {
         match self.flip {
             None => Ok(frame),
             Some(flip) => FlipTamper::new(flip.copy, flip.number).alter(alloc, copy, number, frame),
@@ -56,7 +56,7 @@ fn run_by_kind<T: Tamper, R: Threads + Wait + Sync>(
     kind: JobKind,
     run: &TwinRun<T>,
     copies: u32,
-) -> Result<Verdict, OutOfMemory>
+) -> Result<Verdict, AllocError>
     requires some { 2 ≤ copies }
     requires few { copies ≤ 8 }
     requires good { bad_param kind run.now.profile.params (length run.now.profile.events) ≡ None }

@@ -12,9 +12,8 @@ use crate::sides::Sides;
 use crate::twin_copies::TwinCopies;
 use crate::{Tamper, TwinRun};
 use copies::Verdict;
-use det_values::OutOfMemory;
 use job::Job;
-use std::alloc::Global;
+use std::alloc::{AllocError, Global};
 use std::sync::Wait;
 use std::thread::Threads;
 
@@ -34,7 +33,7 @@ pub fn run_twins<J, T, R>(
     alloc: Global,
     run: &TwinRun<T>,
     copies: u32,
-) -> Result<Verdict, OutOfMemory>
+) -> Result<Verdict, AllocError>
 where
     J: Job + Send + Sync,
     J::Globals: Send,
@@ -65,7 +64,7 @@ fn run_copies<J, T, R>(
     run: &TwinRun<T>,
     begun: TwinCopies<J>,
     copies: u32,
-) -> Result<Option<Verdict>, OutOfMemory>
+) -> Result<Option<Verdict>, AllocError>
 where
     J: Job + Send + Sync,
     J::Globals: Send,

@@ -13,10 +13,9 @@ use crate::threads::send_all;
 use crate::twin::Twin;
 use crate::{Tamper, TwinRun};
 use copies::Verdict;
-use det_values::OutOfMemory;
 use frame_queue::FrameQueue;
 use job::Job;
-use std::alloc::Global;
+use std::alloc::{AllocError, Global};
 use std::sync::Wait;
 use std::thread::{Threads, join};
 
@@ -146,7 +145,7 @@ pub(crate) fn exchange_all<J, T, R>(
     run: &TwinRun<T>,
     queues: &[FrameQueue],
     sides: Sides<J>,
-) -> Result<(Sides<J>, Option<Verdict>), OutOfMemory>
+) -> Result<(Sides<J>, Option<Verdict>), AllocError>
 where
     J: Job + Send + Sync,
     J::Globals: Send,
@@ -177,7 +176,7 @@ where
             return Ok((sides, None));
         }
         if any_failed(&sides) {
-            return Err(OutOfMemory);
+            return Err(AllocError);
         }
         let more = rows - sides.taker.rows;
         let (stood, found) = exchange(rt, alloc, run, queues, sides, more);

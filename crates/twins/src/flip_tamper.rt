@@ -4,8 +4,8 @@ ghost use Rattle.twins.specs.Tampers.{kind_of, flipped_last, flipped_output, fli
 
 use crate::Tamper;
 use crate::push_item::push;
-use det_values::{Bytes, Frame, OutOfMemory, Outcome, RunFrame};
-use std::alloc::Global;
+use det_values::{Bytes, Frame, Outcome, RunFrame};
+use std::alloc::{AllocError, Global};
 
 /// Flips the lowest bit of the last byte of the output in one frame of one copy. The frame stays as
 /// it is if it isn't a finished cycle or if its output is empty.
@@ -31,7 +31,7 @@ impl Tamper for FlipTamper {
     ghost altered = { λ tamper copy number frame.
         flipped_at tamper.copy tamper.number copy number frame };
 
-    fn alter(&self, _: Global, copy: u32, number: u32, frame: Frame) -> Result<Frame, OutOfMemory> {
+    fn alter(&self, _: Global, copy: u32, number: u32, frame: Frame) -> Result<Frame, AllocError> {
         if copy == self.copy && number == self.number {
             return flip_frame(frame);
         }
@@ -39,7 +39,7 @@ impl Tamper for FlipTamper {
     }
 }
 
-fn flip_frame(frame: Frame) -> Result<Frame, OutOfMemory>
+fn flip_frame(frame: Frame) -> Result<Frame, AllocError>
     ensures flip_frame { IfOk result (λ sent. sent ≡ flipped_frame frame) }
     ensures kind { IfOk result (λ sent. kind_of sent ≡ kind_of frame) }
 {
@@ -52,7 +52,7 @@ fn flip_frame(frame: Frame) -> Result<Frame, OutOfMemory>
     }
 }
 
-fn flip_outcome(outcome: Outcome) -> Result<Outcome, OutOfMemory>
+fn flip_outcome(outcome: Outcome) -> Result<Outcome, AllocError>
     ensures { IfOk result (λ sent. sent ≡ flipped_output outcome) }
 {
     match outcome {
@@ -64,7 +64,7 @@ fn flip_outcome(outcome: Outcome) -> Result<Outcome, OutOfMemory>
     }
 }
 
-fn flip_last_byte(output: Bytes) -> Result<Bytes, OutOfMemory>
+fn flip_last_byte(output: Bytes) -> Result<Bytes, AllocError>
     ensures { IfOk result (λ sent. sent ≡ flipped_last output) }
 {
     let mut bytes = output.into_vec();

@@ -5,8 +5,8 @@ ghost use Rattle.twins.specs.Sides.{twins_of};
 use crate::push_item::push;
 use crate::taker::{Intake, Taker};
 use crate::twin::Twin;
-use det_values::OutOfMemory;
 use job::Job;
+use std::alloc::AllocError;
 
 /// Copies of a run, and what takes their rows.
 #[derive(Drop)]
@@ -37,7 +37,7 @@ impl<J: Job> Sides<J> {
     }
 
     /// All copies in order, and the ends from which their rows are taken.
-    pub(crate) fn parts(self) -> Result<(Vec<Twin<J>>, Vec<Intake>), OutOfMemory>
+    pub(crate) fn parts(self) -> Result<(Vec<Twin<J>>, Vec<Intake>), AllocError>
         ensures twins { IfOk result (λ parts. parts.0.items ≡ twins_of self) }
         ensures intakes { IfOk result (λ parts. parts.1 ≡ self.taker.intakes) }
     {

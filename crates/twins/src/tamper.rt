@@ -2,8 +2,8 @@
 ghost use Rattle.std.specs.Prelude.{◌≡◌, IfOk};
 ghost use Rattle.twins.specs.Tampers.{kind_of};
 
-use det_values::{Frame, OutOfMemory};
-use std::alloc::Global;
+use det_values::Frame;
+use std::alloc::{AllocError, Global};
 
 /// Alters the frames of copies before they are sent. Copies count from 0, and so do the frames of
 /// each. All copies call it at the same time.
@@ -20,7 +20,7 @@ pub trait Tamper: Sync {
         copy: u32,
         number: u32,
         frame: Frame,
-    ) -> Result<Frame, OutOfMemory>
+    ) -> Result<Frame, AllocError>
         ensures altered { IfOk result (λ sent. sent ≡ altered self.now copy number frame) }
         ensures kind { IfOk result (λ sent. kind_of sent ≡ kind_of frame) };
 }
@@ -32,7 +32,7 @@ pub struct NoTamper;
 impl Tamper for NoTamper {
     ghost altered = { λ _ _ _ frame. frame };
 
-    fn alter(&self, _: Global, _: u32, _: u32, frame: Frame) -> Result<Frame, OutOfMemory> {
+    fn alter(&self, _: Global, _: u32, _: u32, frame: Frame) -> Result<Frame, AllocError> {
         Ok(frame)
     }
 }

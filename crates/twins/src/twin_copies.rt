@@ -10,10 +10,9 @@ use crate::taker::Intake;
 use crate::twin::Twin;
 use crate::{Tamper, TwinRun};
 use cycle_engine::Engine;
-use det_values::OutOfMemory;
 use frame_queue::{FrameQueue, Sender};
 use job::Job;
-use std::alloc::Global;
+use std::alloc::{AllocError, Global};
 
 /// Copies of a run, with their queues and the ends from which their rows are taken.
 #[derive(Drop)]
@@ -29,7 +28,7 @@ impl<J: Job> TwinCopies<J> {
         alloc: Global,
         run: &TwinRun<T>,
         copies: u32,
-    ) -> Result<TwinCopies<J>, OutOfMemory>
+    ) -> Result<TwinCopies<J>, AllocError>
         requires { J.meaning.bad_param run.now.profile.params (length run.now.profile.events)
             ≡ None }
         ensures { IfOk result (AreCopies J.meaning run.now.profile run.now.inputs
@@ -52,7 +51,7 @@ impl<J: Job> TwinCopies<J> {
         alloc: Global,
         run: &TwinRun<T>,
         copy: u32,
-    ) -> Result<(), OutOfMemory>
+    ) -> Result<(), AllocError>
         requires good { J.meaning.bad_param run.now.profile.params
             (length run.now.profile.events) ≡ None }
         requires copies { AreCopies J.meaning run.now.profile run.now.inputs
@@ -75,7 +74,7 @@ fn begin<J: Job, T>(
     run: &TwinRun<T>,
     copy: u32,
     sender: Sender,
-) -> Result<Twin<J>, OutOfMemory>
+) -> Result<Twin<J>, AllocError>
     requires good { J.meaning.bad_param run.now.profile.params (length run.now.profile.events)
         ≡ None }
     ensures engine { IfOk result (λ twin. HasMade J.meaning run.now.profile run.now.inputs 0

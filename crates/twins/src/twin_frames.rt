@@ -5,10 +5,10 @@ ghost use Rattle.twins.specs.TwinFrames.{AreKnown, IsFrame, HasMade};
 use crate::TwinRun;
 use crate::twin::Twin;
 use cycle_engine::Desk;
-use det_values::{Frame, OutOfMemory};
+use det_values::Frame;
 use job::Job;
 use pass_in_blocks::SerialPool;
-use std::alloc::Global;
+use std::alloc::{AllocError, Global};
 
 impl<J: Job> Twin<J> {
     /// The frame with the number that the copy has reached. After an error its engine must not be
@@ -17,7 +17,7 @@ impl<J: Job> Twin<J> {
         &mut self,
         alloc: Global,
         run: &TwinRun<T>,
-    ) -> Result<Frame, OutOfMemory>
+    ) -> Result<Frame, AllocError>
         requires known { AreKnown run.now.profile run.now.inputs }
         requires more { self.old.number < length run.now.inputs + 4 }
         requires made { HasMade J.meaning run.now.profile run.now.inputs self.old.number
@@ -39,7 +39,7 @@ impl<J: Job> Twin<J> {
     }
 
     /// Register, Discover or Init.
-    fn opening_frame<T>(&self, alloc: Global, run: &TwinRun<T>) -> Result<Frame, OutOfMemory>
+    fn opening_frame<T>(&self, alloc: Global, run: &TwinRun<T>) -> Result<Frame, AllocError>
         requires opening { self.now.number < 3 }
         requires made { HasMade J.meaning run.now.profile run.now.inputs self.now.number
             self.now.engine }
@@ -56,7 +56,7 @@ impl<J: Job> Twin<J> {
     }
 
     /// Runs the next cycle and returns its frame.
-    fn next_run<T>(&mut self, alloc: Global, run: &TwinRun<T>) -> Result<Frame, OutOfMemory>
+    fn next_run<T>(&mut self, alloc: Global, run: &TwinRun<T>) -> Result<Frame, AllocError>
         requires known { AreKnown run.now.profile run.now.inputs }
         requires opened { 3 ≤ self.old.number }
         requires more { self.old.number < length run.now.inputs + 3 }

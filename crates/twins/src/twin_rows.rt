@@ -5,10 +5,9 @@ ghost use Rattle.twins.specs.TwinFrames.{AreKnown, HasMade, IsTwin, IsRow};
 
 use crate::twin::Twin;
 use crate::{Tamper, TwinRun};
-use det_values::OutOfMemory;
 use frame_queue::{FrameQueue, Row};
 use job::Job;
-use std::alloc::Global;
+use std::alloc::{AllocError, Global};
 use std::sync::Wait;
 
 impl<J: Job> Twin<J> {
@@ -62,13 +61,13 @@ impl<J: Job> Twin<J> {
                 queue.send(rt, &mut self.sender, row);
                 self.number += 1;
             }
-            Err(OutOfMemory) => self.failed = true,
+            Err(AllocError) => self.failed = true,
         }
     }
 
     /// The row with the number that the copy has reached. After an error its engine must not be
     /// used.
-    fn next_row<T: Tamper>(&mut self, alloc: Global, run: &TwinRun<T>) -> Result<Row, OutOfMemory>
+    fn next_row<T: Tamper>(&mut self, alloc: Global, run: &TwinRun<T>) -> Result<Row, AllocError>
         requires known { AreKnown run.now.profile run.now.inputs }
         requires more { self.old.number < length run.now.inputs + 4 }
         requires made { HasMade J.meaning run.now.profile run.now.inputs self.old.number

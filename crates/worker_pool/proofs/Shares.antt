@@ -4,7 +4,7 @@ use Rattle.std.proofs.Common.{arith}
 use mathlib.Core.List.{map-append}
 use Rattle.std.specs.Global.{Global}
 use Rattle.std.specs.declared.vec.Vec.{Vec}
-use Rattle.det_values.specs.declared.out_of_memory.OutOfMemory.{OutOfMemory}
+use Rattle.std.specs.declared.alloc.AllocError.{AllocError}
 use Rattle.job.specs.Meaning.{Meaning}
 use Rattle.job.specs.Pass.{PassResult, Refusal}
 use Rattle.pass_in_blocks.specs.declared.block_answer.BlockResult.{BlockResult}
@@ -50,7 +50,7 @@ module _ {E P : Type 0} (block : ℕ → Result (PassResult E P) Refusal) (block
 
 -- the share in a reply without "out of memory", for the task of its ticket
 pub brought : {S G E L P : Type 0} (m : Meaning S G E L P) (announced : List (Task S G E L P)) (t : Task S G E L P) (seat : PassSeat)
-    (results : Result (Vec (BlockResult E P) Global) OutOfMemory) (given : Vec (BlockResult E P) Global) → IsReply m announced seat results
+    (results : Result (Vec (BlockResult E P) Global) AllocError) (given : Vec (BlockResult E P) Global) → IsReply m announced seat results
     → announced ≡ t ∷ [] → results ≡ Ok given → AreOf m t given.items × IsShareOf m t seat given.items
 brought m announced t seat results given reply is ok = subst
     (λ s. IfOk s (λ x. AreOf m t x.items × IsShareOf m t seat x.items)) ok (reply t is).1
@@ -61,7 +61,7 @@ first a (x ∷ xs) = x
 
 -- a worker's share of the task of its ticket is a reply
 pub replied : {S G E L P : Type 0} (m : Meaning S G E L P) (announced : List (Task S G E L P)) (d : Task S G E L P) (seat : PassSeat)
-    (results : Result (Vec (BlockResult E P) Global) OutOfMemory) → announced ≡ d ∷ [] → IsAt seat d.table
+    (results : Result (Vec (BlockResult E P) Global) AllocError) → announced ≡ d ∷ [] → IsAt seat d.table
     → IfOk results (λ x. AreOf m d x.items) → IfOk results (λ x. IsShareOf m d seat x.items) → IsReply m announced seat results
 replied m announced d seat (Ok x) is here right whole t for = subst
     (λ u. IsAt seat u.table × (AreOf m u x.items × IsShareOf m u seat x.items))

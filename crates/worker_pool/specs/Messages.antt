@@ -8,7 +8,7 @@ use Rattle.job.specs.Passes.{IsReady, block_in, blocks_in}
 use Rattle.pass_in_blocks.specs.BlockAnswers.{IsRight, Shows}
 use Rattle.pass_in_blocks.specs.ShownElements.{shown_in}
 use Rattle.pass_in_blocks.specs.declared.block_answer.BlockResult.{BlockResult}
-use Rattle.det_values.specs.declared.out_of_memory.OutOfMemory.{OutOfMemory}
+use Rattle.std.specs.declared.alloc.AllocError.{AllocError}
 use Rattle.worker_pool.specs.declared.messages.Reply.{Reply}
 use Rattle.worker_pool.specs.declared.messages.Work.{Work}
 use Rattle.worker_pool.specs.declared.seat.PassSeat.{PassSeat}
@@ -51,7 +51,7 @@ module _ {S G E L P : Type 0} where
   -- If the ticket is for one task, the seat is at its table. Unless memory ran out, the worker's
   -- share of the pass is also complete and right.
   abbrev pub IsReply : Meaning S G E L P → List (Task S G E L P) → PassSeat
-      → Result (Vec (BlockResult E P) Global) OutOfMemory → Type 0
+      → Result (Vec (BlockResult E P) Global) AllocError → Type 0
   IsReply m announced seat results =
       (t : Task S G E L P) → announced ≡ t ∷ []
       → IsAt seat t.table

@@ -11,10 +11,9 @@ use crate::link::Link;
 use crate::links::work_together;
 use crate::seat::PassTable;
 use crate::task::{OwnedPass, Task};
-use det_values::OutOfMemory;
 use job::{Job, PassDone, PassRef, PassRoom, Pool, PoolFault};
 use pass_in_blocks::{BlockResult, finish_pass};
-use std::alloc::Global;
+use std::alloc::{AllocError, Global};
 use std::marker::Model;
 use std::sync::Arc;
 use std::thread::JoinHandle;
@@ -54,7 +53,7 @@ fn shared_pass<J: Job, B: OfficeName, G: Gate>(
     pass: &PassRef<'_, J>,
     gate: &G,
     room: &mut PassRoom<J::Element, J::Part>,
-) -> Result<Vec<BlockResult<J::Element, J::Part>>, OutOfMemory>
+) -> Result<Vec<BlockResult<J::Element, J::Part>>, AllocError>
     requires few { length links.old ≤ 63 }
     requires room { keeper.old.number < 2 ^ 63 }
     requires ready { IsReady J.meaning J.Covers J.Own J.Fit pass.now }
@@ -65,7 +64,7 @@ fn shared_pass<J: Job, B: OfficeName, G: Gate>(
     let (table, mut seat) = PassTable::new(room.alloc(), pass.blocks())?;
     let pass = OwnedPass::from_pass(pass)?;
     let Ok(task) = Arc::new(room.alloc(), Task { pass, table }) else {
-        return Err(OutOfMemory);
+        return Err(AllocError);
     };
     work_together(keeper, links, &task, &mut seat, gate, room)
 }

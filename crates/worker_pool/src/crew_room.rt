@@ -1,8 +1,7 @@
 //! The value from which a crew is started.
 use crate::task::Task;
-use det_values::OutOfMemory;
 use job::Job;
-use std::alloc::Global;
+use std::alloc::{AllocError, Global};
 use tickets::Office;
 
 /// The value from which a crew is started. To start one, call a function over `B: OfficeName` at
@@ -15,7 +14,7 @@ pub struct CrewRoom<J: Job> {
 
 impl<J: Job> CrewRoom<J> {
     /// A room for one crew.
-    pub fn new(alloc: Global) -> Result<CrewRoom<J>, OutOfMemory> {
+    pub fn new(alloc: Global) -> Result<CrewRoom<J>, AllocError> {
         Ok(CrewRoom {
             office: Office::new(alloc)?,
         })

@@ -13,11 +13,10 @@ use crate::messages::{Reply, ReplyFits, Work, WorkFits};
 use crate::seat::PassSeat;
 use crate::task::Task;
 use crate::work::work_blocks;
-use det_values::OutOfMemory;
 use job::{Job, PassRoom};
 use pass_in_blocks::BlockResult;
 use rtrb::{Consumer, Producer};
-use std::alloc::Global;
+use std::alloc::{AllocError, Global};
 use std::mem;
 use std::sync::Arc;
 use tickets::{Keeper, OfficeName};
@@ -58,7 +57,7 @@ pub(crate) fn work_on_task<J: Job>(
     seat: &mut PassSeat,
     room: &mut PassRoom<J::Element, J::Part>,
     list: Vec<BlockResult<J::Element, J::Part>>,
-) -> Result<Vec<BlockResult<J::Element, J::Part>>, OutOfMemory>
+) -> Result<Vec<BlockResult<J::Element, J::Part>>, AllocError>
     requires task { IsTask J.meaning J.Covers J.Own J.Fit task.now }
     requires here { IsAt seat.old task.now.table }
     requires new { IsNew (view_of seat.old) }
@@ -182,7 +181,7 @@ fn add_results<T: Drop>(
     found: &mut Vec<T>,
     mut more: Vec<T>,
     left: &mut Vec<T>,
-) -> Result<(), OutOfMemory>
+) -> Result<(), AllocError>
     ensures { OnOk result (found.new.items ≡ found.old.items ++ more.items) }
 {
     found.append(&mut more)?;
@@ -199,7 +198,7 @@ fn add_reply<J: Job, B: OfficeName>(
     seat: &mut PassSeat,
     found: &mut Vec<BlockResult<J::Element, J::Part>>,
     reply: Reply<J, B>,
-) -> Result<(), OutOfMemory>
+) -> Result<(), AllocError>
     requires announced { keeper.old.work ≡ task.now ∷ [] }
     requires present { reply.ticket.number ≡ keeper.old.number }
     requires reply { IsReply J.meaning reply.ticket.work reply.seat reply.results }
@@ -261,7 +260,7 @@ pub(crate) fn take_reply<J: Job, B: OfficeName>(
     task: &Task<J>,
     seat: &mut PassSeat,
     found: &mut Vec<BlockResult<J::Element, J::Part>>,
-) -> Result<bool, OutOfMemory>
+) -> Result<bool, AllocError>
     requires announced { keeper.old.work ≡ task.now ∷ [] }
     requires here { IsAt seat.old task.now.table }
     requires right { AreOf J.meaning task.now found.old.items }

@@ -9,10 +9,9 @@ use crate::gate::Gate;
 use crate::link::{Link, give, take_reply, work_on_task};
 use crate::seat::PassSeat;
 use crate::task::Task;
-use det_values::OutOfMemory;
 use job::{Job, PassRoom};
 use pass_in_blocks::BlockResult;
-use std::alloc::Global;
+use std::alloc::{AllocError, Global};
 use std::sync::Arc;
 use std::{hint, slice, thread};
 use tickets::{Keeper, OfficeName};
@@ -64,7 +63,7 @@ fn take_replies<J: Job, B: OfficeName>(
     task: &Task<J>,
     seat: &mut PassSeat,
     found: &mut Vec<BlockResult<J::Element, J::Part>>,
-) -> Result<u32, OutOfMemory>
+) -> Result<u32, AllocError>
     requires announced { keeper.old.work ≡ task.now ∷ [] }
     requires here { IsAt seat.old task.now.table }
     requires right { AreOf J.meaning task.now found.old.items }
@@ -91,7 +90,7 @@ fn collect_replies<J: Job, B: OfficeName>(
     seat: &mut PassSeat,
     found: &mut Vec<BlockResult<J::Element, J::Part>>,
     given: u32,
-) -> Result<(), OutOfMemory>
+) -> Result<(), AllocError>
     requires announced { keeper.old.work ≡ task.now ∷ [] }
     requires here { IsAt seat.old task.now.table }
     requires right { AreOf J.meaning task.now found.old.items }
@@ -126,7 +125,7 @@ pub(crate) fn work_together<J: Job, B: OfficeName, G: Gate>(
     seat: &mut PassSeat,
     gate: &G,
     room: &mut PassRoom<J::Element, J::Part>,
-) -> Result<Vec<BlockResult<J::Element, J::Part>>, OutOfMemory>
+) -> Result<Vec<BlockResult<J::Element, J::Part>>, AllocError>
     requires room { keeper.old.number < 2 ^ 63 }
     requires few { length links.old ≤ 63 }
     requires task { IsTask J.meaning J.Covers J.Own J.Fit (arc_value task.now) }

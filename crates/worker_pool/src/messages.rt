@@ -3,11 +3,10 @@
 use crate::bench::Bench;
 use crate::seat::PassSeat;
 use crate::task::Task;
-use det_values::OutOfMemory;
 use job::{Job, PassRoom};
 use pass_in_blocks::BlockResult;
 use rtrb::Protocol;
-use std::alloc::Global;
+use std::alloc::{AllocError, Global};
 use std::sync::Arc;
 use tickets::{OfficeName, Ticket};
 
@@ -26,7 +25,7 @@ pub struct Work<J: Job, B: OfficeName> {
 pub struct Reply<J: Job, B: OfficeName> {
     pub ticket: Ticket<Task<J>, B>,
     pub seat: PassSeat,
-    pub results: Result<Vec<BlockResult<J::Element, J::Part>>, OutOfMemory>,
+    pub results: Result<Vec<BlockResult<J::Element, J::Part>>, AllocError>,
     pub room: PassRoom<J::Element, J::Part>,
 }
 

@@ -6,8 +6,7 @@ ghost use Rattle.worker_pool.specs.Handles.{view_of, block_count, IsAt, IsSameSe
 use crate::plays::Shares;
 use crate::seat::{PassSeat, PassTable};
 use atomic_table::Table;
-use det_values::OutOfMemory;
-use std::alloc::Global;
+use std::alloc::{AllocError, Global};
 
 /// The number of words of a table for 256 blocks, the most of a pass.
 const MOST_WORDS: usize = 257;
@@ -15,7 +14,7 @@ const MOST_WORDS: usize = 257;
 impl PassTable {
     /// A table without claims, and the seat with all shares. The initial words are on the stack,
     /// since the table copies them.
-    pub fn new(alloc: Global, blocks: u32) -> Result<(PassTable, PassSeat), OutOfMemory>
+    pub fn new(alloc: Global, blocks: u32) -> Result<(PassTable, PassSeat), AllocError>
         requires few { blocks ≤ 256 }
         ensures { IfOk result (λ made.
             (block_count made.0 ≡ blocks) × IsAt made.1 made.0

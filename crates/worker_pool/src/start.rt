@@ -8,10 +8,9 @@ use crate::crew_room::CrewRoom;
 use crate::gate::Gate;
 use crate::link::{Link, MOST_REPLIES, serve_link};
 use crate::messages::{ReplyFits, WorkFits};
-use det_values::OutOfMemory;
 use job::Job;
 use rtrb::RingBuffer;
-use std::alloc::Global;
+use std::alloc::{AllocError, Global};
 use std::sync::Arc;
 use std::thread;
 use std::thread::{JoinHandle, Threads};
@@ -49,7 +48,7 @@ fn start_thread<J, B, G, R>(
     alloc: Global,
     worker: u32,
     gate: &Arc<G, Global>,
-) -> Result<Option<KeptThread<J, B>>, OutOfMemory>
+) -> Result<Option<KeptThread<J, B>>, AllocError>
 where
     J: Job + Send + Sync + 'static,
     J::Globals: Send + 'static,
@@ -84,7 +83,7 @@ fn start_threads<J, B, G, R>(
     gate: &Arc<G, Global>,
     links: &mut Vec<Link<J, B>>,
     handles: &mut Vec<JoinHandle<()>>,
-) -> Result<(), OutOfMemory>
+) -> Result<(), AllocError>
 where
     J: Job + Send + Sync + 'static,
     J::Globals: Send + 'static,
@@ -104,7 +103,7 @@ where
         };
         let KeptThread { link, handle } = started;
         if handles.push(handle).is_err() || links.push(link).is_err() {
-            return Err(OutOfMemory);
+            return Err(AllocError);
         }
     }
     Ok(())
@@ -130,7 +129,7 @@ where
         room: CrewRoom<J>,
         workers: u32,
         gate: &Arc<G, Global>,
-    ) -> Result<Crew<J, B, G>, OutOfMemory>
+    ) -> Result<Crew<J, B, G>, AllocError>
         requires room { room_name room ≡ B.table }
         requires workers { (1 ≤ workers) × (workers ≤ 64) }
         ensures { IfOk result (λ crew. crew ≡ workers) }

@@ -2,9 +2,9 @@
 ghost use Rattle.std.specs.Prelude.{◌≡◌, IfOk};
 
 use crate::seat::PassTable;
-use det_values::{Container, OutOfMemory};
+use det_values::Container;
 use job::{Job, PassRef};
-use std::alloc::Global;
+use std::alloc::{AllocError, Global};
 use std::marker::Model;
 use std::sync::Arc;
 
@@ -43,7 +43,7 @@ impl<J: Job> Model for OwnedPass<J> {
 
 impl<J: Job> OwnedPass<J> {
     /// The same pass with its own owners of the data.
-    pub fn from_pass(pass: &PassRef<'_, J>) -> Result<OwnedPass<J>, OutOfMemory>
+    pub fn from_pass(pass: &PassRef<'_, J>) -> Result<OwnedPass<J>, AllocError>
         ensures { IfOk result (λ held. held ≡ pass.now) }
     {
         Ok(OwnedPass {

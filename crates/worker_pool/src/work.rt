@@ -9,9 +9,9 @@ ghost use Rattle.worker_pool.specs.Results.{Stops, Tidy, Works};
 ghost use Rattle.worker_pool.specs.Views.{taken, IsNew};
 
 use crate::seat::{PassSeat, PassTable};
-use det_values::OutOfMemory;
 use job::{Job, PassRef, PassRoom};
 use pass_in_blocks::{BlockResult, BlockResults, run_block};
+use std::alloc::AllocError;
 
 /// Tries to claim the next block and runs it. Returns whether to go on. A block above a known
 /// refusal is skipped. The worker looks for a refusal once a block and not once an element, since a
@@ -22,7 +22,7 @@ fn try_block<J: Job>(
     pass: &PassRef<'_, J>,
     room: &mut PassRoom<J::Element, J::Part>,
     results: &mut BlockResults<J::Element, J::Part>,
-) -> Result<bool, OutOfMemory>
+) -> Result<bool, AllocError>
     requires here { IsAt seat.old table.now }
     requires ready { IsReady J.meaning J.Covers J.Own J.Fit pass.now }
     requires sized { block_count table.now ≡ blocks_in pass.now }
@@ -78,7 +78,7 @@ pub fn work_blocks<J: Job>(
     pass: &PassRef<'_, J>,
     room: &mut PassRoom<J::Element, J::Part>,
     list: Vec<BlockResult<J::Element, J::Part>>,
-) -> Result<BlockResults<J::Element, J::Part>, OutOfMemory>
+) -> Result<BlockResults<J::Element, J::Part>, AllocError>
     requires here { IsAt seat.old table.now }
     requires ready { IsReady J.meaning J.Covers J.Own J.Fit pass.now }
     requires sized { block_count table.now ≡ blocks_in pass.now }

@@ -5,11 +5,10 @@ ghost use Rattle.record_view.specs.Shows.{IsSpelling};
 ghost use Rattle.probes.specs.Shows.{Shows, seen};
 ghost use Rattle.record_reader.specs.InItems.{run_in};
 
-use det_values::OutOfMemory;
 use probes::{Audience, Probe};
 use record_codec::RunRoom;
 use record_view::ItemView;
-use std::alloc::Global;
+use std::alloc::{AllocError, Global};
 
 /// Shows the Run frames of a record to an audience. A frame is decoded into memory that is used
 /// again, and only while a probe still looks.
@@ -34,7 +33,7 @@ impl Presenter {
         view: ItemView,
         bytes: &[u8],
         audience: &mut Audience,
-    ) -> Result<(), OutOfMemory>
+    ) -> Result<(), AllocError>
         requires { (item : Item) × IsSpelling view item bytes.now }
         ensures { (item : Item) → IsSpelling view item bytes.now
             → OnOk result (Shows (seen (λ b. life (b.vtable, b.value)) audience.old)

@@ -12,14 +12,13 @@ ghost use Rattle.cmd_records.specs.record_show.PrintedItems.{Kept, Watched, is_p
 
 use crate::record_show::presenter::Presenter;
 use det_io::{Sink, Stopped, write_all};
-use det_values::OutOfMemory;
 use probes::{Audience, Probe};
 use record_codec::decode_profile;
 use record_grammar::RecordFault;
 use record_reader::{begins_runs, runs_of};
 use record_text::{ShowPart, put_frame_lines, put_header_lines};
 use record_view::{FrameKind, ItemKind, ItemView};
-use std::alloc::Global;
+use std::alloc::{AllocError, Global};
 
 /// Prints the items of one part of a record.
 #[derive(Drop)]
@@ -144,7 +143,7 @@ impl Printer {
     }
 
     /// Replaces the buffer by the lines of an item.
-    fn put(&mut self, view: ItemView, bytes: &[u8]) -> Result<(), OutOfMemory>
+    fn put(&mut self, view: ItemView, bytes: &[u8]) -> Result<(), AllocError>
         requires { (item : Item) × IsSpelling view item bytes.now }
         ensures lines { OnOk result ((item : Item) → IsSpelling view item bytes.now
             → self.new.lines.items ≡ lines_at (format_of view.place) self.old.cycles item) }
@@ -163,7 +162,7 @@ impl Printer {
         view: ItemView,
         bytes: &[u8],
         audience: &mut Audience,
-    ) -> Result<(), OutOfMemory>
+    ) -> Result<(), AllocError>
         requires { (item : Item) × IsSpelling view item bytes.now }
         ensures shown { (item : Item) → IsSpelling view item bytes.now
             → OnOk result (Watched self.old.part

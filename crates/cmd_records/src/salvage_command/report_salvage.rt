@@ -10,12 +10,11 @@ ghost use Rattle.cmd_records.specs.salvage_command.ReportEnds.{Ended};
 
 use crate::record_show::{Printer, show_items};
 use det_io::{Discard, Sink, Slots, Stopped, write_all};
-use det_values::OutOfMemory;
 use probes::{Audience, Probe};
 use record_grammar::RecordFault;
 use record_reader::item_reader::ItemReader;
 use record_text::{ShowPart, put_salvaged_line};
-use std::alloc::Global;
+use std::alloc::{AllocError, Global};
 
 /// Shows the runs of a record to the audience, and then prints how many there are and what is
 /// reported of them.
@@ -65,7 +64,7 @@ fn settle_fault(
 }
 
 /// The line with the number of salvaged runs, then the reports.
-fn report_lines(alloc: Global, cycles: u32, reports: &[u8]) -> Result<Vec<u8>, OutOfMemory>
+fn report_lines(alloc: Global, cycles: u32, reports: &[u8]) -> Result<Vec<u8>, AllocError>
     ensures { IfOk result (λ lines.
         lines.items ≡ number_line (codes "salvaged") cycles ++ reports.now) }
 {

@@ -4,7 +4,6 @@ ghost use Rattle.std.specs.List.{flat_map};
 ghost use Rattle.cmd_records.specs.vote_command.Vote.{dissenter_line, dissent_text};
 
 use crate::voter::{Dissenter, Vote};
-use det_values::OutOfMemory;
 use record_text::{put_number, put_number_line, put_str};
 use std::alloc::{AllocError, Global};
 
@@ -31,7 +30,7 @@ fn put_dissenters(out: &mut Vec<u8>, dissenters: &[Dissenter]) -> Result<(), All
 }
 
 /// The line with the number of the majority's cycles, and a line for each dissenter.
-pub(crate) fn dissent_text(alloc: Global, vote: &Vote) -> Result<Vec<u8>, OutOfMemory>
+pub(crate) fn dissent_text(alloc: Global, vote: &Vote) -> Result<Vec<u8>, AllocError>
     ensures { IfOk result (λ text. text.items ≡ dissent_text vote.now.cycles vote.now.dissent) }
 {
     let mut text = Vec::new(alloc);

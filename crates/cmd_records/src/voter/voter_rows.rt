@@ -14,11 +14,10 @@ ghost use Rattle.cmd_records.specs.voter.Rows.{view_answer};
 ghost use Rattle.cmd_records.specs.voter.Rows.{RowGiven, ReadIs, RowsRead};
 
 use det_io::{Failure, Slots, Stopped};
-use det_values::OutOfMemory;
 use record_grammar::RecordFault;
 use record_reader::item_reader::ItemReader;
 use record_view::ItemView;
-use std::alloc::Global;
+use std::alloc::{AllocError, Global};
 
 /// A row of a copy, as its reader read it.
 #[derive(Clone, Copy, Drop)]
@@ -110,7 +109,7 @@ fn vote_row(answer: Result<Option<ItemView>, Stopped<RecordFault>>) -> Result<Ro
 }
 
 /// A voter for each slot, all in step.
-pub fn voters_at(alloc: Global, slots: &[u32]) -> Result<Vec<Voter>, OutOfMemory>
+pub fn voters_at(alloc: Global, slots: &[u32]) -> Result<Vec<Voter>, AllocError>
     ensures voters { IfOk result (λ voters. (state : ShelfState)
         → AreVoters state state [] slots.now voters.items) }
     ensures all { IfOk result (λ voters. count_by is_in_step voters.items ≡ length slots.now) }
@@ -124,7 +123,7 @@ pub fn voters_at(alloc: Global, slots: &[u32]) -> Result<Vec<Voter>, OutOfMemory
             left: None,
         };
         if voters.push(voter).is_err() {
-            return Err(OutOfMemory);
+            return Err(AllocError);
         }
     }
     Ok(voters)

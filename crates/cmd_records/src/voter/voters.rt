@@ -22,9 +22,8 @@ use crate::voter::voter_rows::{RowView, Voter, read_voter_rows, voters_at};
 use crate::voter::{Dissent, Dissenter, NoMajority, Vote};
 use copies::runs_of;
 use det_io::{Sink, Slots, Stopped, write_all};
-use det_values::OutOfMemory;
 use record_view::{ItemView, events_at};
-use std::alloc::Global;
+use std::alloc::{AllocError, Global};
 
 /// The copies, and how many rows more than half of them held together.
 #[derive(Drop)]
@@ -47,7 +46,7 @@ pub struct HeldItem {
 
 impl Voters {
     /// Copies of which nothing was read yet.
-    pub fn new(alloc: Global, slots: &[u32]) -> Result<Voters, OutOfMemory>
+    pub fn new(alloc: Global, slots: &[u32]) -> Result<Voters, AllocError>
         requires { 1 ≤ length slots.now }
         ensures { IfOk result (λ voters. (state : ShelfState)
             → Stand state state [] slots.now voters) }
@@ -154,7 +153,7 @@ fn write_majority_row<K: Sink>(bytes: &[u8], sink: &mut K) -> Result<(), Stopped
 }
 
 /// The copies that left, in their order.
-fn dissent_of(alloc: Global, voters: &[Voter]) -> Result<Dissent, OutOfMemory>
+fn dissent_of(alloc: Global, voters: &[Voter]) -> Result<Dissent, AllocError>
     requires few { length (dissenters 0 voters.now) ≤ 3 }
     requires short { length voters.now ≤ 7 }
     ensures { IfOk result (λ dissent. dissent ≡ dissenters 0 voters.now) }
@@ -167,7 +166,7 @@ fn dissent_of(alloc: Global, voters: &[Voter]) -> Result<Dissent, OutOfMemory>
 }
 
 /// Adds a copy, if it left.
-fn add_dissenter(dissent: &mut Dissent, copy: u32, left: Option<u32>) -> Result<(), OutOfMemory>
+fn add_dissenter(dissent: &mut Dissent, copy: u32, left: Option<u32>) -> Result<(), AllocError>
     requires { length dissent.old + length (dissenter left copy) ≤ 3 }
     ensures { OnOk result (dissent.new ≡ dissent.old ++ dissenter left copy) }
 {

@@ -9,10 +9,9 @@ use cli_answers::Answer;
 use copies::Difference;
 use copies::verdict_text::put_difference_place;
 use det_io::{Sink, write_all};
-use det_values::OutOfMemory;
 use record_text::{put_number_line, put_str};
 use rerun::checker::CheckVerdict;
-use std::alloc::Global;
+use std::alloc::{AllocError, Global};
 
 /// The answer of the command for a verdict.
 fn answer_to(verdict: CheckVerdict) -> Answer
@@ -25,7 +24,7 @@ fn answer_to(verdict: CheckVerdict) -> Answer
     }
 }
 
-fn put_departs_line(out: &mut Vec<u8>, at: Difference) -> Result<(), OutOfMemory>
+fn put_departs_line(out: &mut Vec<u8>, at: Difference) -> Result<(), AllocError>
     ensures { OnOk result (out.new.items
         ≡ out.old.items ++ check_line (CheckVerdict.Departs at)) }
 {
@@ -35,7 +34,7 @@ fn put_departs_line(out: &mut Vec<u8>, at: Difference) -> Result<(), OutOfMemory
     Ok(())
 }
 
-fn put_check_line(out: &mut Vec<u8>, verdict: CheckVerdict) -> Result<(), OutOfMemory>
+fn put_check_line(out: &mut Vec<u8>, verdict: CheckVerdict) -> Result<(), AllocError>
     ensures { OnOk result (out.new.items ≡ out.old.items ++ check_line verdict) }
 {
     match verdict {
@@ -48,7 +47,7 @@ fn put_check_line(out: &mut Vec<u8>, verdict: CheckVerdict) -> Result<(), OutOfM
 }
 
 /// The line of a verdict, then the reports.
-fn lines_of(alloc: Global, verdict: CheckVerdict, reports: &[u8]) -> Result<Vec<u8>, OutOfMemory>
+fn lines_of(alloc: Global, verdict: CheckVerdict, reports: &[u8]) -> Result<Vec<u8>, AllocError>
     ensures { IfOk result (λ lines. lines.items ≡ check_line verdict ++ reports.now) }
 {
     let mut lines = Vec::new(alloc);

@@ -5,8 +5,8 @@ ghost use Rattle.std.specs.List.{All};
 ghost use Rattle.cmd_run.specs.chain.OutputSamples.{sample_of, first_word, samples_from};
 ghost use Rattle.cmd_run.specs.chain.OutputSamples.{samples_of, chained_input};
 
-use det_values::{CycleInput, OutOfMemory, Outcome, RunFrame, Sample, Samples};
-use std::alloc::Global;
+use det_values::{CycleInput, Outcome, RunFrame, Sample, Samples};
+use std::alloc::{AllocError, Global};
 
 /// The greatest sample; its negation is the least one.
 const MAX_SAMPLE: i64 = 1000000000000;
@@ -16,7 +16,7 @@ const MAX_SAMPLE: i64 = 1000000000000;
 ///
 /// A word is 8 bytes, big-endian, in two's complement. A word beyond 10^12 in either direction
 /// gives no sample. A refused cycle gives no samples.
-pub fn chained_input(alloc: Global, run: &RunFrame, events: u16) -> Result<CycleInput, OutOfMemory>
+pub fn chained_input(alloc: Global, run: &RunFrame, events: u16) -> Result<CycleInput, AllocError>
     requires { events ≤ 256 }
     ensures is { IfOk result (λ input. input ≡ chained_input events run.now) }
     ensures known { IfOk result (λ input. All (λ s. s.event < events) input.samples) }
@@ -29,7 +29,7 @@ pub fn chained_input(alloc: Global, run: &RunFrame, events: u16) -> Result<Cycle
 }
 
 /// The samples that a cycle gives.
-fn samples_of_output(alloc: Global, outcome: &Outcome, events: u16) -> Result<Samples, OutOfMemory>
+fn samples_of_output(alloc: Global, outcome: &Outcome, events: u16) -> Result<Samples, AllocError>
     requires { events ≤ 256 }
     ensures { IfOk result (λ samples. samples ≡ samples_of events outcome.now) }
 {
@@ -44,7 +44,7 @@ fn samples_of_output(alloc: Global, outcome: &Outcome, events: u16) -> Result<Sa
 }
 
 /// Pushes the words of an output as samples, one word for each event.
-fn push_output_words(output: &[u8], events: u16, samples: &mut Samples) -> Result<(), OutOfMemory>
+fn push_output_words(output: &[u8], events: u16, samples: &mut Samples) -> Result<(), AllocError>
     requires few { events ≤ 256 }
     requires none { samples.old ≡ [] }
     ensures { OnOk result (samples.new ≡ samples_from 0 events output.now) }
@@ -62,7 +62,7 @@ fn push_output_words(output: &[u8], events: u16, samples: &mut Samples) -> Resul
 }
 
 /// Pushes a word as the sample of an event, unless it is out of range.
-fn push_output_word(samples: &mut Samples, event: u16, word: i64) -> Result<(), OutOfMemory>
+fn push_output_word(samples: &mut Samples, event: u16, word: i64) -> Result<(), AllocError>
     requires { length samples.old < 4096 }
     ensures { OnOk result (samples.new ≡ samples.old ++ sample_of event word) }
 {

@@ -4,7 +4,7 @@ ghost use Rattle.record_text.specs.Words.{number_line};
 ghost use Rattle.cmd_run.specs.needs_command.Lines.{job_line, platform_line, needs_of};
 ghost use Rattle.cmd_run.specs.needs_command.Lines.{needs_lines};
 
-use det_values::{JobKind, OutOfMemory};
+use det_values::JobKind;
 use manifest::{Manifest, Needs, PlatformName};
 use record_text::{put_number_line, put_str};
 use std::alloc::AllocError;
@@ -79,7 +79,7 @@ fn put_needs(out: &mut Vec<u8>, word: &str, needs: Option<&Needs>) -> Result<(),
 /// Appends the lines of a manifest: its job, its cycle time in nanoseconds, its workers, its
 /// platform, and the needs of an initialisation and of a run. Speedups are in thousandths. At
 /// `OutOfMemory` some of the lines may have been appended.
-pub(crate) fn put_needs_lines(out: &mut Vec<u8>, manifest: &Manifest) -> Result<(), OutOfMemory>
+pub(crate) fn put_needs_lines(out: &mut Vec<u8>, manifest: &Manifest) -> Result<(), AllocError>
     ensures { OnOk result (out.new.items ≡ out.old.items ++ needs_lines manifest.now) }
 {
     put_job_line(out, manifest.kind())?;

@@ -12,13 +12,12 @@ ghost use Rattle.cmd_run.specs.needs_command.Needs.{needs_outcome, needs_work};
 use crate::needs_command::lines::put_needs_lines;
 use cli_answers::Answer;
 use det_io::{Shelf, Sink, write_all};
-use det_values::OutOfMemory;
 use manifest::Manifest;
 use run_setup::read_setup;
-use std::alloc::Global;
+use std::alloc::{AllocError, Global};
 
 /// The lines of a manifest, in memory of their own.
-fn needs_text(alloc: Global, manifest: &Manifest) -> Result<Vec<u8>, OutOfMemory>
+fn needs_text(alloc: Global, manifest: &Manifest) -> Result<Vec<u8>, AllocError>
     ensures { IfOk result (λ text. text.items ≡ needs_lines manifest.now) }
 {
     let mut text = Vec::new(alloc);

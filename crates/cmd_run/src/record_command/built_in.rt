@@ -11,15 +11,13 @@ ghost use Rattle.cmd_run.specs.record_command.Outcomes.{demo_outcome, demo_profi
 use crate::record_command::over_stimulus::record_named_stimulus;
 use cli_answers::Answer;
 use det_io::{Shelf, Sink};
-use det_values::{
-    EventName, EventSpec, Events, Format, JobKind, OutOfMemory, Params, Policy, Profile,
-};
+use det_values::{EventName, EventSpec, Events, Format, JobKind, Params, Policy, Profile};
 use shipped_crews::{Host, ShippedRun};
-use std::alloc::Global;
+use std::alloc::{AllocError, Global};
 use std::thread::Threads;
 use worker_pool::Gate;
 
-fn demo_events(alloc: Global) -> Result<Events, OutOfMemory>
+fn demo_events(alloc: Global) -> Result<Events, AllocError>
     ensures { IfOk result (λ events. events ≡ demo_profile.events) }
 {
     let mut events = Events::new(alloc);
@@ -34,7 +32,7 @@ fn demo_events(alloc: Global) -> Result<Events, OutOfMemory>
     Ok(events)
 }
 
-fn demo_params(alloc: Global) -> Result<Params, OutOfMemory>
+fn demo_params(alloc: Global) -> Result<Params, AllocError>
     ensures { IfOk result (λ params. params ≡ demo_profile.params) }
 {
     let mut params = Params::new(alloc);
@@ -42,7 +40,7 @@ fn demo_params(alloc: Global) -> Result<Params, OutOfMemory>
     Ok(params)
 }
 
-fn demo_profile(alloc: Global) -> Result<Profile, OutOfMemory>
+fn demo_profile(alloc: Global) -> Result<Profile, AllocError>
     ensures { IfOk result (λ profile. profile ≡ demo_profile) }
 {
     let params = demo_params(alloc)?;

@@ -6,9 +6,9 @@ ghost use Rattle.manifest.specs.Profiles.{profile_of};
 ghost use Rattle.jobs.specs.Kinds.{bad_param};
 ghost use Rattle.run_setup.specs.Setup.{IsGood};
 
-use det_values::OutOfMemory;
 use manifest::Manifest;
 use shipped_crews::{Host, PlannedRun, ShippedRun};
+use std::alloc::AllocError;
 
 /// The number of workers: `given`, or else that of the manifest.
 fn workers_or(given: Option<u32>, own: u32) -> u32
@@ -30,7 +30,7 @@ pub fn plan_run<'h, R, G>(
     setup: &Manifest,
     seed: Option<u64>,
     workers: Option<u32>,
-) -> Result<PlannedRun<'h, R, G>, OutOfMemory>
+) -> Result<PlannedRun<'h, R, G>, AllocError>
     requires good { IsGood setup.now }
     requires workers { IfSome workers IsWorkers }
     ensures kind { IfOk result (λ plan_run. plan_run.run.kind ≡ setup.now.kind) }

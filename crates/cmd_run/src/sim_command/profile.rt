@@ -2,10 +2,8 @@
 ghost use Rattle.std.specs.Prelude.{◌≡◌, IfOk};
 ghost use Rattle.cmd_run.specs.sim_command.Sim.{sim_event, sim_profile};
 
-use det_values::{
-    EventName, EventSpec, Events, Format, JobKind, OutOfMemory, Params, Policy, Profile,
-};
-use std::alloc::Global;
+use det_values::{EventName, EventSpec, Events, Format, JobKind, Params, Policy, Profile};
+use std::alloc::{AllocError, Global};
 
 fn sim_event(name: EventName) -> EventSpec
     ensures { result ≡ sim_event name }
@@ -17,7 +15,7 @@ fn sim_event(name: EventName) -> EventSpec
     }
 }
 
-fn sim_events(alloc: Global) -> Result<Events, OutOfMemory>
+fn sim_events(alloc: Global) -> Result<Events, AllocError>
     ensures { IfOk result (λ events. events ≡ (sim_profile 0).events) }
 {
     let mut events = Events::new(alloc);
@@ -36,7 +34,7 @@ fn sim_events(alloc: Global) -> Result<Events, OutOfMemory>
     Ok(events)
 }
 
-fn sim_params(alloc: Global) -> Result<Params, OutOfMemory>
+fn sim_params(alloc: Global) -> Result<Params, AllocError>
     ensures { IfOk result (λ params. params ≡ (sim_profile 0).params) }
 {
     let mut params = Params::new(alloc);
@@ -45,7 +43,7 @@ fn sim_params(alloc: Global) -> Result<Params, OutOfMemory>
 }
 
 /// The profile of the cloud, with this number as its seed.
-pub(crate) fn sim_profile(alloc: Global, number: u64) -> Result<Profile, OutOfMemory>
+pub(crate) fn sim_profile(alloc: Global, number: u64) -> Result<Profile, AllocError>
     ensures { IfOk result (λ profile. profile ≡ sim_profile number) }
 {
     let params = sim_params(alloc)?;

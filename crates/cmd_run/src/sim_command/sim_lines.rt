@@ -13,21 +13,17 @@ use crate::sim_command::profile::sim_profile;
 use crate::sim_command::summary_run::summarize_run;
 use cli_answers::Answer;
 use det_io::{Sink, write_all};
-use det_values::{JobKind, OutOfMemory};
+use det_values::JobKind;
 use probes::{Audience, Probe};
 use record_text::{Summary, put_summary_lines};
 use shipped_crews::{ShippedRun, Workers};
-use std::alloc::Global;
+use std::alloc::{AllocError, Global};
 use std::thread::Threads;
 use stimulus::generate_stimulus;
 use worker_pool::Gate;
 
 /// The lines of a summary, then the reports.
-fn sim_output_lines(
-    alloc: Global,
-    summary: &Summary,
-    reports: &[u8],
-) -> Result<Vec<u8>, OutOfMemory>
+fn sim_output_lines(alloc: Global, summary: &Summary, reports: &[u8]) -> Result<Vec<u8>, AllocError>
     ensures { IfOk result (λ lines. lines.items
         ≡ summary_lines summary.now ++ reports.now) }
 {
@@ -43,7 +39,7 @@ fn sim_text<R, G>(
     workers: &Workers<'_, R, G>,
     number: u64,
     audience: &mut Audience,
-) -> Result<Vec<u8>, OutOfMemory>
+) -> Result<Vec<u8>, AllocError>
 where
     R: Threads,
     G: Gate + Send + Sync + 'static,

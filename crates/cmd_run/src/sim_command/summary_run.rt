@@ -8,24 +8,25 @@ ghost use Rattle.cmd_run.specs.sim_command.Sim.{runs_over, summary_over};
 
 use crate::stimulus_visit::StimulusIn;
 use det_io::{Failure, Stopped, TextShelf};
-use det_values::{Bytes, OutOfMemory};
+use det_values::Bytes;
 use probes::{Audience, Probe};
 use record_reader::DigestSink;
 use record_text::Summary;
 use recorder::run_writer::Counts;
 use shipped_crews::{ShippedRun, Workers, with_crew};
+use std::alloc::AllocError;
 use std::thread::Threads;
 use stimulus::StimulusFault;
 use worker_pool::Gate;
 
 /// The counts of a run that only `OutOfMemory` can end early.
-fn sim_counts(run: Result<Counts, Stopped<StimulusFault>>) -> Result<Counts, OutOfMemory>
+fn sim_counts(run: Result<Counts, Stopped<StimulusFault>>) -> Result<Counts, AllocError>
     requires { IfErr run (λ why. why ≡ Stopped.Failed Failure.OutOfMemory) }
     ensures { IfOk result (λ counts. run ≡ Ok counts) }
 {
     match run {
         Ok(counts) => Ok(counts),
-        Err(_) => Err(OutOfMemory),
+        Err(_) => Err(AllocError),
     }
 }
 
@@ -37,7 +38,7 @@ pub(crate) fn summarize_run<R, G>(
     number: u64,
     text: Bytes,
     audience: &mut Audience,
-) -> Result<Summary, OutOfMemory>
+) -> Result<Summary, AllocError>
 where
     R: Threads,
     G: Gate + Send + Sync + 'static,

@@ -3,7 +3,6 @@ ghost use Rattle.std.specs.Prelude.{◌≡◌, ◌++◌, IfOk, OnOk, codes, deci
 ghost use Rattle.copies.specs.verdict_text.Verdicts.{place_text, verdict_line};
 
 use crate::{Difference, Verdict};
-use det_values::OutOfMemory;
 use record_text::{put_number, put_number_line, put_str};
 use std::alloc::{AllocError, Global};
 
@@ -24,7 +23,7 @@ fn put_element(out: &mut Vec<u8>, cycle: u32, element: u32) -> Result<(), AllocE
 }
 
 /// Appends a place. At `OutOfMemory` a part of it may have been appended.
-pub fn put_difference_place(out: &mut Vec<u8>, place: Difference) -> Result<(), OutOfMemory>
+pub fn put_difference_place(out: &mut Vec<u8>, place: Difference) -> Result<(), AllocError>
     ensures { OnOk result (out.new.items ≡ out.old.items ++ place_text place) }
 {
     match place {
@@ -40,7 +39,7 @@ pub fn put_difference_place(out: &mut Vec<u8>, place: Difference) -> Result<(), 
 }
 
 /// Appends a space, a place and the end of the line.
-fn put_last_place(out: &mut Vec<u8>, place: Difference) -> Result<(), OutOfMemory>
+fn put_last_place(out: &mut Vec<u8>, place: Difference) -> Result<(), AllocError>
     ensures { OnOk result (out.new.items
         ≡ out.old.items ++ (codes " " ++ (place_text place ++ codes "\n"))) }
 {
@@ -50,7 +49,7 @@ fn put_last_place(out: &mut Vec<u8>, place: Difference) -> Result<(), OutOfMemor
     Ok(())
 }
 
-fn put_differ_line(out: &mut Vec<u8>, copy: u32, at: Difference) -> Result<(), OutOfMemory>
+fn put_differ_line(out: &mut Vec<u8>, copy: u32, at: Difference) -> Result<(), AllocError>
     ensures { OnOk result (out.new.items
         ≡ out.old.items ++ verdict_line (Verdict.Differ copy at)) }
 {
@@ -58,7 +57,7 @@ fn put_differ_line(out: &mut Vec<u8>, copy: u32, at: Difference) -> Result<(), O
     put_last_place(out, at)
 }
 
-fn put_verdict_line(out: &mut Vec<u8>, verdict: &Verdict) -> Result<(), OutOfMemory>
+fn put_verdict_line(out: &mut Vec<u8>, verdict: &Verdict) -> Result<(), AllocError>
     ensures { OnOk result (out.new.items ≡ out.old.items ++ verdict_line verdict.now) }
 {
     match verdict {
@@ -71,7 +70,7 @@ fn put_verdict_line(out: &mut Vec<u8>, verdict: &Verdict) -> Result<(), OutOfMem
 }
 
 /// The line of a verdict, in memory of its own.
-pub fn verdict_line(alloc: Global, verdict: &Verdict) -> Result<Vec<u8>, OutOfMemory>
+pub fn verdict_line(alloc: Global, verdict: &Verdict) -> Result<Vec<u8>, AllocError>
     ensures { IfOk result (λ line. line.items ≡ verdict_line verdict.now) }
 {
     let mut line = Vec::new(alloc);

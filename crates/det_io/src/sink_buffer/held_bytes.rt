@@ -6,14 +6,13 @@ ghost use Rattle.det_io.specs.Sink.{Same};
 ghost use Rattle.det_io.specs.sink_buffer.Front.{TakesFront};
 
 use crate::{Sink, SinkFailed};
-use det_values::OutOfMemory;
-use std::alloc::Global;
+use std::alloc::{AllocError, Global};
 
 /// The room of a buffer, in bytes. Between calls it holds fewer.
 pub const BUFFER_ROOM: usize = 65_536;
 
 /// The memory of a buffer. It is the only allocation that a buffer needs.
-pub fn buffer_room(alloc: Global) -> Result<Vec<u8>, OutOfMemory>
+pub fn buffer_room(alloc: Global) -> Result<Vec<u8>, AllocError>
     ensures none { IfOk result (λ held. held.items ≡ []) }
     ensures room { IfOk result (λ held. 65536 ≤ vec_capacity held) }
 {

@@ -5,8 +5,8 @@ ghost use Rattle.std.specs.Prelude.{slice_index_or};
 ghost use Rattle.circular_buffer.specs.Buffer.{last_item};
 
 use crate::event_cache::rings::EventRings;
-use det_values::{Events, OutOfMemory, Sample};
-use std::alloc::Global;
+use det_values::{Events, Sample};
+use std::alloc::{AllocError, Global};
 use std::marker::Model;
 
 /// The windows of the events of a client, and the samples that arrived since the last turn.
@@ -36,7 +36,7 @@ impl EventCache {
 
     /// A cache of these events, before any sample.
     #[tactic(auto, using(crate::proofs::lemmas::event_cache::Rounds::made_more))]
-    pub fn new(alloc: Global, events: &Events) -> Result<EventCache, OutOfMemory>
+    pub fn new(alloc: Global, events: &Events) -> Result<EventCache, AllocError>
         ensures seen { IfOk result (λ cache. HasSeen cache events.now [] []) }
         ensures count { IfOk result (λ cache. length cache ≡ length events.now) }
         ensures windows { IfOk result (λ cache. windows cache ≡ windows_after events.now []) }
@@ -44,7 +44,7 @@ impl EventCache {
         let mut rings = Vec::new(alloc);
         for spec in events.as_slice() {
             let empty = EventRings::new(alloc, spec)?;
-            rings.push(empty).map_err(|_| OutOfMemory)?;
+            rings.push(empty).map_err(|_| AllocError)?;
         }
         Ok(EventCache { rings })
     }

@@ -4,8 +4,8 @@ ghost use Rattle.std.specs.Prelude.{◌≡◌, ◌<◌, List, [], ◌∷◌, ◌
 ghost use Rattle.circular_buffer.specs.Buffer.{last_item, keep_last};
 
 use circular_buffer::HeapCircularBuffer;
-use det_values::{EventSpec, OutOfMemory, Policy, Sample};
-use std::alloc::Global;
+use det_values::{EventSpec, Policy, Sample};
+use std::alloc::{AllocError, Global};
 use std::marker::Model;
 use std::mem;
 
@@ -37,7 +37,7 @@ impl EventRings {
     ghost use Rattle.job.specs.event_cache.Rings.{turned, joined};
 
     /// Both rings of an event, empty.
-    pub fn new(alloc: Global, spec: &EventSpec) -> Result<EventRings, OutOfMemory>
+    pub fn new(alloc: Global, spec: &EventSpec) -> Result<EventRings, AllocError>
         ensures { IfOk result (λ r. r
             ≡ record {
               policy = spec.now.policy;

@@ -5,14 +5,14 @@ use crate::bank::summary::{output, summary_of};
 use crate::bank::{Bank, Channel, Summary};
 use det_client::Client;
 use det_client::element_random::ElementRandom;
-use det_values::{Bytes, Container, OutOfMemory, Params};
+use det_values::{Bytes, Container, Params};
 use job::event_cache::EventCache;
 use job::{BadParam, Conclusion, Job, JobFault, JobStart};
 use job_shared::{
     NewestSamples, first_elements, join_parts, natural_param, newest_samples, no_more_params,
     put_drawn_bytes, sample_of,
 };
-use std::alloc::Global;
+use std::alloc::{AllocError, Global};
 
 /// The bank keeps nothing between cycles besides its channels.
 #[derive(Clone, Copy, Debug, PartialEq, Eq, Drop)]
@@ -59,7 +59,7 @@ impl Job for Bank {
         &self,
         alloc: Global,
         _client: &mut Client,
-    ) -> Result<JobStart<NoGlobals, Channel>, OutOfMemory> {
+    ) -> Result<JobStart<NoGlobals, Channel>, AllocError> {
         Ok(JobStart {
             globals: NoGlobals,
             elements: first_elements(alloc, self, self.channels)?,
@@ -112,13 +112,13 @@ impl Job for Bank {
         &self,
         left: &mut Option<Summary>,
         right: &mut Option<Summary>,
-    ) -> Result<(), OutOfMemory> {
+    ) -> Result<(), AllocError> {
         *left = join_parts(*left, *right);
         Ok(())
     }
 
     #[inline(always)]
-    fn put_element(&self, element: &Channel, out: &mut Vec<u8>) -> Result<(), OutOfMemory> {
+    fn put_element(&self, element: &Channel, out: &mut Vec<u8>) -> Result<(), AllocError> {
         let skipped = if self.events >= 2 { 0 } else { 2 };
         Ok(out.extend_from_slice(&channel_bytes(element)[skipped..])?)
     }
@@ -129,7 +129,7 @@ impl Job for Bank {
         element: &Channel,
         draws: u32,
         out: &mut Vec<u8>,
-    ) -> Result<(), OutOfMemory> {
+    ) -> Result<(), AllocError> {
         let bytes = channel_bytes(element);
         if self.events >= 2 {
             put_drawn_bytes(&bytes, draws, out)

@@ -5,9 +5,9 @@ ghost use Rattle.det_values.specs.Limits.{IsSampleValue};
 ghost use Rattle.jobs.specs.bank.Meaning.{summary_of, output};
 ghost use Rattle.jobs.specs.bank.Ranges.{IsSummaryOf};
 
-use det_values::{Bytes, OutOfMemory};
+use det_values::Bytes;
 use job_shared::{Joinable, empty_output};
-use std::alloc::Global;
+use std::alloc::{AllocError, Global};
 
 /// The sum, the least and the greatest of the levels of some channels.
 #[derive(Clone, Copy, Debug, PartialEq, Eq, Drop)]
@@ -54,7 +54,7 @@ pub(crate) fn output(
     part: Option<Summary>,
     alloc: Global,
     spare: &mut Option<Bytes>,
-) -> Result<Bytes, OutOfMemory>
+) -> Result<Bytes, AllocError>
     ensures { IfOk result (λ bytes. bytes ≡ output part) }
 {
     let all = part.unwrap_or(summary_of(0));

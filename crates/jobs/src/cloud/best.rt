@@ -6,9 +6,9 @@ ghost use Rattle.jobs.specs.cloud.Ranges.{IsPlace, IsBestOf};
 
 use crate::cloud::particle::distance;
 use crate::cloud::{Particle, Target};
-use det_values::{Bytes, OutOfMemory};
+use det_values::Bytes;
 use job_shared::{Joinable, empty_output};
-use std::alloc::Global;
+use std::alloc::{AllocError, Global};
 
 /// The best particle: its distance from the target, its number, and its coordinates.
 #[derive(Clone, Copy, Debug, PartialEq, Eq, Drop)]
@@ -76,7 +76,7 @@ pub(crate) fn output(
     finished: u32,
     alloc: Global,
     spare: &mut Option<Bytes>,
-) -> Result<Bytes, OutOfMemory>
+) -> Result<Bytes, AllocError>
     ensures { IfOk result (λ bytes. bytes ≡ output part finished) }
 {
     let best = match part {

@@ -18,14 +18,14 @@ use crate::cloud::steps::random_step;
 use crate::cloud::{Best, Cloud, Particle, Target};
 use det_client::Client;
 use det_client::element_random::ElementRandom;
-use det_values::{Bytes, Container, OutOfMemory, Params};
+use det_values::{Bytes, Container, Params};
 use job::event_cache::EventCache;
 use job::{BadParam, Conclusion, Job, JobFault, JobStart};
 use job_shared::{
     first_elements, join_parts, natural_param, newest_sample, no_more_params, put_drawn_bytes,
     step_towards, wide_param,
 };
-use std::alloc::Global;
+use std::alloc::{AllocError, Global};
 
 /// The number of finished cycles. It saturates at `u32::MAX`.
 #[derive(Clone, Copy, Debug, PartialEq, Eq, Drop)]
@@ -161,7 +161,7 @@ impl Job for Cloud {
         &self,
         alloc: Global,
         _client: &mut Client,
-    ) -> Result<JobStart<Finished, Particle>, OutOfMemory> {
+    ) -> Result<JobStart<Finished, Particle>, AllocError> {
         Ok(JobStart {
             globals: Finished { cycles: 0 },
             elements: first_elements(alloc, self, self.particles)?,
@@ -214,13 +214,13 @@ impl Job for Cloud {
 
     #[inline(always)]
     #[tactic(auto, using(crate::specs::cloud::Laws::parts_joined))]
-    fn merge(&self, left: &mut Option<Best>, right: &mut Option<Best>) -> Result<(), OutOfMemory> {
+    fn merge(&self, left: &mut Option<Best>, right: &mut Option<Best>) -> Result<(), AllocError> {
         *left = join_parts(*left, *right);
         Ok(())
     }
 
     #[inline(always)]
-    fn put_element(&self, element: &Particle, out: &mut Vec<u8>) -> Result<(), OutOfMemory> {
+    fn put_element(&self, element: &Particle, out: &mut Vec<u8>) -> Result<(), AllocError> {
         Ok(out.extend_from_slice(&particle_bytes(element))?)
     }
 
@@ -230,7 +230,7 @@ impl Job for Cloud {
         element: &Particle,
         draws: u32,
         out: &mut Vec<u8>,
-    ) -> Result<(), OutOfMemory> {
+    ) -> Result<(), AllocError> {
         put_drawn_bytes(&particle_bytes(element), draws, out)
     }
 

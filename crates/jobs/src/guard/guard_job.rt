@@ -9,14 +9,14 @@ use crate::guard::report::output;
 use crate::guard::{Bounds, Channel, Guard};
 use det_client::Client;
 use det_client::element_random::ElementRandom;
-use det_values::{Bytes, Container, Limited, OutOfMemory, Params};
+use det_values::{Bytes, Container, Limited, Params};
 use job::event_cache::EventCache;
 use job::{BadParam, Conclusion, Job, JobFault, JobStart};
 use job_shared::{
     NewestSamples, first_elements, natural_param, newest_samples, no_more_params, put_drawn_bytes,
     whole_param,
 };
-use std::alloc::Global;
+use std::alloc::{AllocError, Global};
 
 /// The number of corrections in all finished cycles. It saturates at `u64::MAX`.
 #[derive(Clone, Copy, Debug, PartialEq, Eq, Drop)]
@@ -107,7 +107,7 @@ impl Job for Guard {
         &self,
         alloc: Global,
         _client: &mut Client,
-    ) -> Result<JobStart<Total, Channel>, OutOfMemory> {
+    ) -> Result<JobStart<Total, Channel>, AllocError> {
         Ok(JobStart {
             globals: Total { corrections: 0 },
             elements: first_elements(alloc, self, self.channels)?,
@@ -154,12 +154,12 @@ impl Job for Guard {
 
     #[inline(always)]
     #[tactic(auto, using(crate::specs::guard::Laws::parts_joined))]
-    fn merge(&self, left: &mut Corrections, right: &mut Corrections) -> Result<(), OutOfMemory> {
+    fn merge(&self, left: &mut Corrections, right: &mut Corrections) -> Result<(), AllocError> {
         left.extend_from_slice(right.as_slice())
     }
 
     #[inline(always)]
-    fn put_element(&self, element: &Channel, out: &mut Vec<u8>) -> Result<(), OutOfMemory> {
+    fn put_element(&self, element: &Channel, out: &mut Vec<u8>) -> Result<(), AllocError> {
         Ok(out.extend_from_slice(&channel_bytes(element))?)
     }
 
@@ -169,7 +169,7 @@ impl Job for Guard {
         element: &Channel,
         draws: u32,
         out: &mut Vec<u8>,
-    ) -> Result<(), OutOfMemory> {
+    ) -> Result<(), AllocError> {
         put_drawn_bytes(&channel_bytes(element), draws, out)
     }
 

@@ -6,12 +6,12 @@ ghost use Rattle.job_shared.specs.Bytes.{u32_bytes};
 ghost use Rattle.jobs.specs.guard.Meaning.{next_bytes, output};
 
 use crate::guard::Corrections;
-use det_values::{Bytes, OutOfMemory};
+use det_values::Bytes;
 use job_shared::empty_output;
-use std::alloc::Global;
+use std::alloc::{AllocError, Global};
 
 /// Appends the bytes of these numbers.
-fn append_channel_numbers(bytes: &mut Bytes, numbers: &[u32]) -> Result<(), OutOfMemory>
+fn append_channel_numbers(bytes: &mut Bytes, numbers: &[u32]) -> Result<(), AllocError>
     requires { length bytes.old + 4 * length numbers.now ≤ 1048576 }
     ensures items { OnOk result (bytes.new ≡ bytes.old ++ flat_map u32_bytes numbers.now) }
     ensures long { OnOk result (length bytes.new ≡ length bytes.old + 4 * length numbers.now) }
@@ -23,7 +23,7 @@ fn append_channel_numbers(bytes: &mut Bytes, numbers: &[u32]) -> Result<(), OutO
 }
 
 /// Appends a 1 and the next activation time, or a 0 if it isn't available.
-fn append_next_time(bytes: &mut Bytes, next: Option<u64>) -> Result<(), OutOfMemory>
+fn append_next_time(bytes: &mut Bytes, next: Option<u64>) -> Result<(), AllocError>
     requires { length bytes.old + 9 ≤ 1048576 }
     ensures { OnOk result (bytes.new ≡ bytes.old ++ next_bytes next) }
 {
@@ -44,7 +44,7 @@ pub(crate) fn output(
     next: Option<u64>,
     alloc: Global,
     spare: &mut Option<Bytes>,
-) -> Result<Bytes, OutOfMemory>
+) -> Result<Bytes, AllocError>
     ensures { IfOk result (λ bytes. bytes ≡ output total corrections.now next) }
 {
     let mut bytes = empty_output(alloc, spare, 21 + 4 * corrections.len())?;

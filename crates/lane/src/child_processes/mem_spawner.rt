@@ -8,9 +8,9 @@ mod script_search;
 
 use crate::child_processes::{SpawnFailed, Spawner};
 use det_io::{FailList, PlannedCalls, push_within};
-use det_values::{Limited, OutOfMemory};
+use det_values::Limited;
 use running_child::RunningChild;
-use std::alloc::Global;
+use std::alloc::{AllocError, Global};
 
 /// What a child with these arguments writes, and the exit status with which it ends.
 #[derive(Drop)]
@@ -71,7 +71,7 @@ impl MemSpawner {
 
     /// A spawner that knows these scripts, with room for 64 calls of `start`. Its calls are
     /// numbered together from 1. A call fails if its number is listed.
-    pub fn new(alloc: Global, scripts: Scripts, fails: FailList) -> Result<MemSpawner, OutOfMemory>
+    pub fn new(alloc: Global, scripts: Scripts, fails: FailList) -> Result<MemSpawner, AllocError>
         ensures { IfOk result (λ spawner. IsNewMemSpawner spawner
             (record { scripts = scripts; fails = fails })) }
     {

@@ -4,9 +4,9 @@ ghost use Rattle.std.specs.Prelude.{◌≡◌, ◌≤◌, ◌<◌, ◌+◌, ◌+
 
 use crate::item_reader::ItemReader;
 use det_io::{Failure, Slots, Stopped};
-use det_values::OutOfMemory;
 use record_grammar::{Place, RecordFault};
 use record_view::{ItemView, events_at, place_after};
+use std::alloc::AllocError;
 
 /// The result of comparing the next item with an item of another record.
 #[derive(Clone, Copy, Drop)]
@@ -183,7 +183,7 @@ impl ItemReader {
     }
 
     /// Holds bytes again that were dropped.
-    fn put_back(&mut self, bytes: &[u8]) -> Result<(), OutOfMemory>
+    fn put_back(&mut self, bytes: &[u8]) -> Result<(), AllocError>
         requires before { length bytes.now ≤ self.old.before }
         requires begins { Begins self.old }
         ensures held { OnOk result (held self.new.window ≡ bytes.now ++ held self.old.window) }

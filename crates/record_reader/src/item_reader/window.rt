@@ -7,8 +7,7 @@ ghost use Rattle.record_grammar.specs.Spelling.{AreBytes};
 ghost use Rattle.std.specs.Vec.{vec_len};
 
 use det_io::{Failure, ShelfFailed, Slots};
-use det_values::OutOfMemory;
-use std::alloc::Global;
+use std::alloc::{AllocError, Global};
 
 /// The number of bytes that a read asks for. It is large enough that the cost of a call is small
 /// beside that of moving the bytes. It is small enough that they are still in the processor's cache
@@ -79,7 +78,7 @@ impl Window {
     }
 
     /// Puts bytes before the held ones.
-    pub fn put_front(&mut self, bytes: &[u8]) -> Result<(), OutOfMemory>
+    pub fn put_front(&mut self, bytes: &[u8]) -> Result<(), AllocError>
         ensures ok { OnOk result (held self.new ≡ bytes.now ++ held self.old) }
         ensures err { OnErr result (held self.new ≡ held self.old) }
     {
@@ -91,12 +90,12 @@ impl Window {
     }
 
     /// Moves the held bytes back, until there is room for `count` bytes before them.
-    fn move_back(&mut self, count: usize) -> Result<(), OutOfMemory>
+    fn move_back(&mut self, count: usize) -> Result<(), AllocError>
         ensures same { held self.new ≡ held self.old }
         ensures room { OnOk result (count ≤ self.new.from) }
     {
         let Some(end) = count.checked_add(self.len()) else {
-            return Err(OutOfMemory);
+            return Err(AllocError);
         };
         self.lengthen_to(end)?;
         self.move_to(count);
@@ -116,7 +115,7 @@ impl Window {
     }
 
     /// Makes the buffer at least `len` bytes long.
-    fn lengthen_to(&mut self, len: usize) -> Result<(), OutOfMemory>
+    fn lengthen_to(&mut self, len: usize) -> Result<(), AllocError>
         ensures same { held self.new ≡ held self.old }
         ensures places { (self.new.from ≡ self.old.from) × (self.new.to ≡ self.old.to) }
         ensures long { OnOk result (len ≤ vec_len self.new.buffer) }
@@ -159,7 +158,7 @@ impl Window {
 
     /// Makes room for a piece at the end. It moves the held bytes to the front if that costs no
     /// more than was dropped, so all moves together are linear. Otherwise it doubles the buffer.
-    fn make_room(&mut self) -> Result<(), OutOfMemory>
+    fn make_room(&mut self) -> Result<(), AllocError>
         ensures same { held self.new ≡ held self.old }
         ensures room { OnOk result (self.new.to + 65536 ≤ vec_len self.new.buffer) }
     {
@@ -174,7 +173,7 @@ impl Window {
 
     /// Makes room for a piece at the end. If there is none, the buffer becomes at least twice as
     /// long.
-    fn double_buffer(&mut self) -> Result<(), OutOfMemory>
+    fn double_buffer(&mut self) -> Result<(), AllocError>
         ensures same { held self.new ≡ held self.old }
         ensures room { OnOk result (self.new.to + 65536 ≤ vec_len self.new.buffer) }
     {
@@ -212,7 +211,7 @@ fn read_slot<S: Slots>(buffer: &mut [u8], slot: u32, shelf: &mut S) -> Result<us
 }
 
 /// Makes a buffer longer. The new bytes have no meaning.
-fn lengthen_buffer(buffer: &mut Vec<u8>, len: usize) -> Result<(), OutOfMemory>
+fn lengthen_buffer(buffer: &mut Vec<u8>, len: usize) -> Result<(), AllocError>
     requires { vec_len buffer.old ≤ len }
     ensures same { take (vec_len buffer.old) buffer.new.items ≡ buffer.old.items }
     ensures longer { vec_len buffer.old ≤ vec_len buffer.new }

@@ -6,10 +6,10 @@ use crate::run_writer::frame_parts::{count_blocks, write_parts};
 use crate::run_writer::run_frames::{frame_of, long_run, refusals, run_in};
 use cycle_engine::{Desk, Engine};
 use det_io::{Failure, Sink, write_all};
-use det_values::{CycleInput, DrawnElements, Frame, OutOfMemory, Profile, RunFrame};
+use det_values::{CycleInput, DrawnElements, Frame, Profile, RunFrame};
 use job::{Job, Pool};
 use record_codec::{encode_frame, encode_header, encode_init_head, encode_run_ends};
-use std::alloc::Global;
+use std::alloc::{AllocError, Global};
 
 /// An engine, the profile of its run, and the counts of the record that was written so far.
 #[derive(Drop)]
@@ -119,7 +119,7 @@ impl<J: Job> Recording<J> {
         &mut self,
         pool: &mut P,
         input: CycleInput,
-    ) -> Result<RunFrame, OutOfMemory>
+    ) -> Result<RunFrame, AllocError>
         requires stands { (given : List Input)
             × EngineStands J.meaning self.old.profile self.old.engine given }
         requires going { self.old.engine.stopped ≡ false }
@@ -151,7 +151,7 @@ impl<J: Job> Recording<J> {
 
     /// The frame Init, with the elements as they are now. It is that of the record only before the
     /// first cycle. Nothing is written.
-    pub fn init(&self) -> Result<Frame, OutOfMemory>
+    pub fn init(&self) -> Result<Frame, AllocError>
         ensures { IfOk result (λ frame. frame ≡ Frame.Init
             (map (J.meaning.shown self.now.engine.job) self.now.engine.state.elements)) }
     {
@@ -159,7 +159,7 @@ impl<J: Job> Recording<J> {
     }
 
     /// Encodes the header into the buffer, from which `write` writes it.
-    pub fn spell_header(&mut self) -> Result<(), OutOfMemory>
+    pub fn spell_header(&mut self) -> Result<(), AllocError>
         ensures bytes { OnOk result (self.new.buffer.items ≡ spelled self.old.profile []) }
         ensures keeps { Keeps self.old self.new }
     {
@@ -168,7 +168,7 @@ impl<J: Job> Recording<J> {
     }
 
     /// Encodes a frame into the buffer, from which `write` writes it.
-    pub fn spell(&mut self, frame: &Frame) -> Result<(), OutOfMemory>
+    pub fn spell(&mut self, frame: &Frame) -> Result<(), AllocError>
         requires { CanSpell self.old.profile.format (length self.old.profile.events) frame.now }
         ensures bytes { OnOk result (self.new.buffer.items
             ≡ spelled_frame self.old.profile.format frame.now) }
@@ -228,7 +228,7 @@ impl<J: Job> Recording<J> {
     }
 
     /// Encodes the header and the frames up to Init into the buffer.
-    fn encode_opening(&mut self) -> Result<(), OutOfMemory>
+    fn encode_opening(&mut self) -> Result<(), AllocError>
         ensures bytes { OnOk result (self.new.buffer.items ≡ spelled self.old.profile
             (Frame.Register ∷ Frame.Discover
             ∷ Frame.Init (map (J.meaning.shown self.old.engine.job) self.old.engine.state.elements)
@@ -243,7 +243,7 @@ impl<J: Job> Recording<J> {
 
     /// Appends the frame Init, with the elements as they are now, to the buffer. The elements are
     /// encoded without a copy of the list.
-    fn append_init(&mut self) -> Result<(), OutOfMemory>
+    fn append_init(&mut self) -> Result<(), AllocError>
         ensures bytes { OnOk result (self.new.buffer.items ≡ self.old.buffer.items
             ++ spelled_frame self.old.profile.format (Frame.Init
             (map (J.meaning.shown self.old.engine.job) self.old.engine.state.elements))) }
@@ -255,7 +255,7 @@ impl<J: Job> Recording<J> {
     }
 
     /// Appends a frame to the buffer.
-    fn append(&mut self, frame: &Frame) -> Result<(), OutOfMemory>
+    fn append(&mut self, frame: &Frame) -> Result<(), AllocError>
         requires { CanSpell self.old.profile.format (length self.old.profile.events) frame.now }
         ensures bytes { OnOk result (self.new.buffer.items
             ≡ self.old.buffer.items ++ spelled_frame self.old.profile.format frame.now) }
@@ -323,7 +323,7 @@ impl<J: Job> Recording<J> {
         input: &CycleInput,
         elements: &DrawnElements,
         output: &[u8],
-    ) -> Result<usize, OutOfMemory>
+    ) -> Result<usize, AllocError>
         requires known { All (λ s. s.event < length self.old.profile.events) input.now.samples }
         requires short { length output.now ≤ 1048576 }
         ensures within { IfOk result (λ at. at ≤ length self.new.buffer.items) }

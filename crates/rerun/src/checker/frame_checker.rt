@@ -3,12 +3,12 @@ ghost use Rattle.std.specs.Prelude.{◌≡◌};
 
 use crate::checker::{FramePair, FrameRoom};
 use copies::Difference;
-use det_values::{Frame, OutOfMemory};
+use det_values::Frame;
 use job::{Job, Pool};
 use probes::{Audience, Probe};
 use record_view::FrameView;
 use recorder::run_writer::Recording;
-use std::alloc::Global;
+use std::alloc::{AllocError, Global};
 
 /// How far a record was compared, and the memory for the next comparison.
 #[derive(Drop)]
@@ -54,7 +54,7 @@ impl FrameChecker {
         view: FrameView,
         bytes: &[u8],
         audience: &mut Audience,
-    ) -> Result<Option<Difference>, OutOfMemory>
+    ) -> Result<Option<Difference>, AllocError>
         requires behind { (given : List Input) × IsEngineAfter J.meaning recording.old given }
         requires comes { (read : FrameValue) × IsFrameSpelling view read bytes.now
             × CanCome recording.old.engine.cycles (length recording.old.profile.events) read }
@@ -92,7 +92,7 @@ impl FrameChecker {
         alloc: Global,
         frame: &Frame,
         audience: &mut Audience,
-    ) -> Result<(), OutOfMemory>
+    ) -> Result<(), AllocError>
         requires { self.old.cycles < 4294967295 }
         ensures shown { OnOk result (Shows (seen (λ b. life (b.vtable, b.value)) audience.old)
             (seen (λ b. life (b.vtable, b.value)) audience.new) (run_of frame.now)) }

@@ -9,12 +9,12 @@ ghost use Rattle.rerun.specs.checker.RerunFrames.{AreAlike};
 use crate::checker::frame_pair::FramePair;
 use crate::checker::next_run::next_run_frame;
 use crate::replayer::empty_input;
-use det_values::{CycleInput, Frame, OutOfMemory};
+use det_values::{CycleInput, Frame};
 use job::{Job, Pool};
 use record_codec::{encode_frame, frame_of};
 use record_view::{FrameKind, FrameView, events_at, format_at};
 use recorder::run_writer::Recording;
-use std::alloc::Global;
+use std::alloc::{AllocError, Global};
 use std::mem;
 
 /// Gives the frames of a run in the places of those that were read, and compares the two. Its
@@ -53,7 +53,7 @@ impl FrameRoom {
         pool: &mut P,
         view: FrameView,
         bytes: &[u8],
-    ) -> Result<Frame, OutOfMemory>
+    ) -> Result<Frame, AllocError>
         requires behind { (given : List Input) × IsEngineAfter J.meaning recording.old given }
         requires comes { (read : FrameValue) × IsFrameSpelling view read bytes.now
             × CanCome recording.old.engine.cycles (length recording.old.profile.events) read }
@@ -86,7 +86,7 @@ impl FrameRoom {
         view: FrameView,
         bytes: &[u8],
         given: Frame,
-    ) -> Result<FramePair, OutOfMemory>
+    ) -> Result<FramePair, AllocError>
         requires spells { CanSpell (format_of view.place) (events_of view.place) given }
         requires read { (read : FrameValue) × IsFrameSpelling view read bytes.now
             × AreAlike read given }
@@ -123,7 +123,7 @@ fn rerun_equals_read(
     bytes: &[u8],
     given: &Frame,
     spelling: &mut Vec<u8>,
-) -> Result<bool, OutOfMemory>
+) -> Result<bool, AllocError>
     requires spells { CanSpell (format_of view.place) (events_of view.place) given.now }
     requires read { (read : FrameValue) × IsFrameSpelling view read bytes.now
         × AreAlike read given.now }

@@ -8,11 +8,12 @@ ghost use Rattle.record_grammar.specs.Spelling.{CanSpell};
 ghost use Rattle.record_view.specs.Shows.{IsFrameSpelling};
 ghost use Rattle.rerun.specs.checker.RerunFrames.{IsEngineAfter, input_of, rerun_frame};
 
-use det_values::{CycleInput, Frame, OutOfMemory};
+use det_values::{CycleInput, Frame};
 use job::{Job, Pool};
 use record_codec::fill_input;
 use record_view::FrameView;
 use recorder::run_writer::Recording;
+use std::alloc::AllocError;
 
 /// The frame of the next cycle, which is run on a pool over the input of a Run frame. `spare` is
 /// the memory for that input. Nothing is written. After an error the recording must not be used.
@@ -22,7 +23,7 @@ pub(crate) fn next_run_frame<J: Job, P: Pool<J>>(
     view: FrameView,
     bytes: &[u8],
     spare: CycleInput,
-) -> Result<Frame, OutOfMemory>
+) -> Result<Frame, AllocError>
     requires behind { (given : List Input) × IsEngineAfter J.meaning recording.old given }
     requires comes { (run : RunValue) × IsFrameSpelling view (Run run) bytes.now
         × (recording.old.engine.cycles < 1000000)

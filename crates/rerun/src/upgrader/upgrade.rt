@@ -16,11 +16,12 @@ use crate::checker::{CheckVerdict, FramePair, FrameRoom};
 use crate::upgrader::Original;
 use copies::Difference;
 use det_io::{Failure, Sink, Slots, Stopped};
-use det_values::{Format, Frame, OutOfMemory, reduce_to_format};
+use det_values::{Format, Frame, reduce_to_format};
 use job::{Job, Pool};
 use record_grammar::RecordFault;
 use record_view::FrameView;
 use recorder::run_writer::Recording;
+use std::alloc::AllocError;
 
 /// How far a record was compared, and the memory for the next comparison.
 #[derive(Drop)]
@@ -57,7 +58,7 @@ impl Upgrade {
         pool: &mut P,
         view: FrameView,
         bytes: &[u8],
-    ) -> Result<FramePair, OutOfMemory>
+    ) -> Result<FramePair, AllocError>
         requires behind { (given : List Input) × IsEngineAfter J.meaning recording.old given }
         requires comes { (read : FrameValue) × IsFrameSpelling view read bytes.now
             × CanCome recording.old.engine.cycles (length recording.old.profile.events) read }

@@ -8,10 +8,10 @@ ghost use Rattle.thread_tests.specs.pool_tests.Meaning.{byte_after};
 use crate::pool_tests::watch::Watch;
 use det_client::Client;
 use det_client::element_random::ElementRandom;
-use det_values::{Bytes, Container, Limited, OutOfMemory, Params};
+use det_values::{Bytes, Container, Limited, Params};
 use job::event_cache::EventCache;
 use job::{BadParam, Conclusion, Job, JobFault, JobStart};
-use std::alloc::Global;
+use std::alloc::{AllocError, Global};
 use std::sync::Arc;
 
 /// Elements from `limit` on refuse, with their value as the code. Of the others an odd one becomes
@@ -81,7 +81,7 @@ impl Job for ListJob {
         &self,
         alloc: Global,
         _client: &mut Client,
-    ) -> Result<JobStart<NoGlobals, u8>, OutOfMemory> {
+    ) -> Result<JobStart<NoGlobals, u8>, AllocError> {
         Ok(JobStart {
             globals: NoGlobals,
             elements: Container::new(alloc),
@@ -129,11 +129,11 @@ impl Job for ListJob {
         Ok(byte_after(byte, random))
     }
 
-    fn merge(&self, left: &mut Met, right: &mut Met) -> Result<(), OutOfMemory> {
+    fn merge(&self, left: &mut Met, right: &mut Met) -> Result<(), AllocError> {
         left.extend_from_slice(right.as_slice())
     }
 
-    fn put_element(&self, element: &u8, out: &mut Vec<u8>) -> Result<(), OutOfMemory> {
+    fn put_element(&self, element: &u8, out: &mut Vec<u8>) -> Result<(), AllocError> {
         Ok(out.extend_from_slice(&[*element])?)
     }
 

@@ -4,10 +4,10 @@ ghost use Rattle.det_values.specs.Values.{ProfileValue};
 ghost use Rattle.twins.specs.TwinFrames.{AreKnown};
 
 use copies::{Difference, Verdict};
-use det_values::{CycleInput, Events, Format, Frame, OutOfMemory, Params, Profile, Samples};
+use det_values::{CycleInput, Events, Format, Frame, Params, Profile, Samples};
 use job::Job;
 use job_heavy::Heavy;
-use std::alloc::Global;
+use std::alloc::{AllocError, Global};
 use std::sync::Wait;
 use std::sync::atomic::{AtomicU64, Ordering};
 use std::test::Fail;
@@ -17,7 +17,7 @@ use twins::{FlipTamper, Inputs, Tamper, TwinRun, run_twins};
 const CYCLES: u32 = 200;
 
 /// Inputs without a time and without samples.
-fn inputs(alloc: Global, count: u32) -> Result<Inputs, OutOfMemory>
+fn inputs(alloc: Global, count: u32) -> Result<Inputs, AllocError>
     requires { count ≤ 1000 }
     ensures { IfOk result (λ inputs. (profile : ProfileValue) → AreKnown profile inputs) }
 {
@@ -32,7 +32,7 @@ fn inputs(alloc: Global, count: u32) -> Result<Inputs, OutOfMemory>
 }
 
 /// A run of five elements. Its output in each cycle is their number in 8 bytes.
-fn run_of(alloc: Global, tamper: Watch) -> Result<TwinRun<Watch>, OutOfMemory>
+fn run_of(alloc: Global, tamper: Watch) -> Result<TwinRun<Watch>, AllocError>
     ensures { IfOk result (λ run. AreKnown run.profile run.inputs) }
 {
     let mut params = Params::new(alloc);
@@ -56,7 +56,7 @@ fn verdict_on<R: Threads + Wait + Sync>(
     rt: &R,
     alloc: Global,
     run: &TwinRun<Watch>,
-) -> Result<Option<Verdict>, OutOfMemory>
+) -> Result<Option<Verdict>, AllocError>
     requires { AreKnown run.now.profile run.now.inputs }
 {
     if Heavy::make(&run.profile.params, run.profile.events.len() as u16).is_err() {
@@ -120,7 +120,7 @@ impl Tamper for Watch {
         copy: u32,
         number: u32,
         frame: Frame,
-    ) -> Result<Frame, OutOfMemory> {
+    ) -> Result<Frame, AllocError> {
         self.frames.fetch_add(1, Ordering::SeqCst);
         if number == 3 {
             self.meet();
