@@ -2,10 +2,10 @@
 ghost use Rattle.std.specs.Prelude.{◌≡◌, ℕ, ◌+◌, ◌-◌, ◌≤◌, ◌++◌, length, take, drop, map};
 ghost use Rattle.std.specs.Prelude.{IfOk, OnOk};
 ghost use Rattle.det_values.specs.declared.frames.Outcome.{Outcome};
-ghost use Rattle.record_view.specs.Shows.{ShowsFinished};
 ghost use Rattle.record_view.specs.Parts.{ElementsOf};
-ghost use Rattle.record_codec.specs.Parts.{bytes_of};
+ghost use Rattle.record_codec.specs.Parts.{bytes_of, IsFinishedView, ShowsFinishedView};
 
+use crate::fill_run::FinishedView;
 use det_values::{Bytes64, DrawnElements, Elements, Format, Limited};
 use record_view::{ElementWalk, view_elements};
 use std::alloc::{AllocError, Global};
@@ -29,23 +29,23 @@ pub fn decode_elements(alloc: Global, walk: ElementWalk<'_>) -> Result<Elements,
 /// copied as one block, since a container holds elements as they are spelled there.
 pub fn fill_elements(
     elements: &mut DrawnElements,
-    format: Format,
-    count: u32,
-    at: usize,
-    output_at: usize,
+    view: FinishedView,
     bytes: &[u8],
 ) -> Result<(), AllocError>
-    requires shows { (len : ℕ) × (outcome : Outcome)
-        × ShowsFinished format count at output_at len bytes.now outcome }
-    requires few { count ≤ 65536 }
+    requires { IsFinishedView view bytes.now }
     ensures { OnOk result ((len : ℕ) (outcome : Outcome)
-        → ShowsFinished format count at output_at len bytes.now outcome
-        → ElementsOf elements.new outcome) }
+        → ShowsFinishedView view len bytes.now outcome → ElementsOf elements.new outcome) }
 {
+    let FinishedView {
+        format,
+        elements: count,
+        elements_at,
+        output_at,
+    } = view;
     elements.clear();
     match format {
-        Format::One => push_elements(elements, view_elements(format, count, at, bytes)),
-        Format::Two => elements.extend_spelled(element_span(bytes, at, output_at), count),
+        Format::One => push_elements(elements, view_elements(format, count, elements_at, bytes)),
+        Format::Two => elements.extend_spelled(element_span(bytes, elements_at, output_at), count),
     }
 }
 

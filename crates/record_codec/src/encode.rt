@@ -10,12 +10,12 @@ ghost use Rattle.det_values.specs.declared.format.Format.TheVariants.{Two};
 ghost use Rattle.det_values.specs.declared.frames.DrawnElement.{DrawnElement};
 ghost use Rattle.record_codec.specs.FinishedRun.{finished_run};
 
-use crate::put_frame::{put_frame, put_init_head, put_output, put_run_head};
+use crate::put_frame::{put_frame, put_init_head, put_output, put_run, put_run_head};
 use crate::put_header::put_header;
-use det_values::{CycleInput, Format, Frame, Profile};
+use det_values::{CycleInput, Format, Frame, Profile, RunFrame};
 use std::alloc::AllocError;
 
-/// Appends the spelling of a header, in the profile's own format. On `OutOfMemory`, `out` is as
+/// Appends the spelling of a header, in the profile's own format. On `AllocError`, `out` is as
 /// before.
 pub fn encode_header(profile: &Profile, out: &mut Vec<u8>) -> Result<(), AllocError>
     ensures ok { OnOk result (out.new.items ≡ out.old.items ++ spelled_header profile.now) }
@@ -25,14 +25,14 @@ pub fn encode_header(profile: &Profile, out: &mut Vec<u8>) -> Result<(), AllocEr
     let len = out.len();
     match put_header(out, profile) {
         Ok(()) => Ok(()),
-        Err(_) => {
+        Err(refused) => {
             out.truncate(len);
-            Err(AllocError)
+            Err(refused)
         }
     }
 }
 
-/// Appends the spelling of a frame of a run with this number of events. On `OutOfMemory`, `out` is
+/// Appends the spelling of a frame of a run with this number of events. On `AllocError`, `out` is
 /// as before.
 pub fn encode_frame(
     format: Format,
@@ -48,14 +48,38 @@ pub fn encode_frame(
     let len = out.len();
     match put_frame(out, format, events, frame) {
         Ok(()) => Ok(()),
-        Err(_) => {
+        Err(refused) => {
             out.truncate(len);
-            Err(AllocError)
+            Err(refused)
         }
     }
 }
 
-/// Appends what comes before the elements of an Init frame with `count` elements. On `OutOfMemory`,
+/// Appends the spelling of the frame of a run, as `encode_frame` does. On `AllocError`, `out` is as
+/// before.
+pub fn encode_run(
+    format: Format,
+    events: u16,
+    run: &RunFrame,
+    out: &mut Vec<u8>,
+) -> Result<(), AllocError>
+    requires { CanSpell format events (Frame.Run run.now) }
+    ensures ok { OnOk result (out.new.items
+        ≡ out.old.items ++ spelled_frame format (Frame.Run run.now)) }
+    ensures fields { OnOk result (IsFrame format events (Frame.Run run.now)) }
+    ensures err { OnErr result (out.new.items ≡ out.old.items) }
+{
+    let len = out.len();
+    match put_run(out, format, events, run) {
+        Ok(()) => Ok(()),
+        Err(refused) => {
+            out.truncate(len);
+            Err(refused)
+        }
+    }
+}
+
+/// Appends what comes before the elements of an Init frame with `count` elements. On `AllocError`,
 /// `out` may have a part of it.
 #[tactic(auto, unfolding(record_grammar::specs::Spelling::spelled_frame))]
 pub fn encode_init_head(count: u32, out: &mut Vec<u8>) -> Result<(), AllocError>
@@ -68,7 +92,7 @@ pub fn encode_init_head(count: u32, out: &mut Vec<u8>) -> Result<(), AllocError>
 }
 
 /// Appends what comes before and after the elements of a finished Run frame in format 2 with
-/// `count` elements. Returns the offset in `out` at which the elements belong. On `OutOfMemory`,
+/// `count` elements. Returns the offset in `out` at which the elements belong. On `AllocError`,
 /// `out` may have a part of it.
 pub fn encode_run_ends(
     events: u16,

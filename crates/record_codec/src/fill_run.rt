@@ -128,11 +128,11 @@ pub fn fill_outcome(
 
 /// The parts of a finished cycle, and the format of its elements.
 #[derive(Clone, Copy, Drop)]
-struct FinishedView {
-    format: Format,
-    elements: u32,
-    elements_at: usize,
-    output_at: usize,
+pub(crate) struct FinishedView {
+    pub(crate) format: Format,
+    pub(crate) elements: u32,
+    pub(crate) elements_at: usize,
+    pub(crate) output_at: usize,
 }
 
 /// Replaces `outcome` by that of a finished cycle.
@@ -178,14 +178,8 @@ fn fill_finished_parts(
     ensures { OnOk result (IsShownOutcome view bytes.now
         (outcomes.Finished elements.new output.new)) }
 {
-    let FinishedView {
-        format,
-        elements: count,
-        elements_at,
-        output_at,
-    } = view;
-    fill_elements(elements, format, count, elements_at, output_at, bytes)?;
-    fill_output(output, output_at, bytes)
+    fill_elements(elements, view, bytes)?;
+    fill_output(output, view.output_at, bytes)
 }
 
 /// Replaces `output` by that of a finished cycle.

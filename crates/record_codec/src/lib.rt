@@ -14,6 +14,6 @@ mod read_header;
 mod run_room;
 
 pub use decode::{decode_profile, frame_of};
-pub use encode::{encode_frame, encode_header, encode_init_head, encode_run_ends};
+pub use encode::{encode_frame, encode_header, encode_init_head, encode_run, encode_run_ends};
 pub use record_grammar::{Item, Layout, Limits, Place, Reason, RecordFault};
 pub use run_room::{RunRoom, fill_input};

@@ -18,7 +18,7 @@ use crate::put_field::{put_element, put_i64, put_u8, put_u64};
 use det_values::put::{put_slice, put_u16, put_u32};
 use det_values::{
     Bytes64, CycleInput, DrawnBlock, DrawnElements, Format, Frame, Outcome, Phase, RefusedAt,
-    Sample,
+    RunFrame, Sample,
 };
 use std::alloc::AllocError;
 
@@ -236,10 +236,40 @@ pub fn put_run_head(
     ensures { OnOk result (out.new.items ≡ out.old.items
         ++ 4 ∷ (spelled_input input.now ++ 0 ∷ spelled_u32 count)) }
 {
-    put_u8(out, 4)?;
-    put_input(out, events, input)?;
+    put_run_input(out, events, input)?;
     put_u8(out, 0)?;
     put_u32(out, count)
+}
+
+/// What comes before the outcome in a Run frame: the frame's kind and its input.
+fn put_run_input(out: &mut Vec<u8>, events: u16, input: &CycleInput) -> Result<(), AllocError>
+    requires { All (λ s. s.event < events) input.now.samples }
+    ensures ok { OnOk result (out.new.items ≡ out.old.items ++ 4 ∷ spelled_input input.now) }
+    ensures grows { Grows out.old.items out.new.items }
+    ensures fields { OnOk result (IsInput events input.now) }
+{
+    put_u8(out, 4)?;
+    put_input(out, events, input)?;
+    Ok(())
+}
+
+/// The spelling of the frame of a run. On an error a part of it may be there.
+#[tactic(auto, using(crate::proofs::Appending::grows_then), unfolding(record_grammar::specs::Spelling::spelled_frame, record_grammar::specs::Spelling::IsFrame))]
+pub fn put_run(
+    out: &mut Vec<u8>,
+    format: Format,
+    events: u16,
+    run: &RunFrame,
+) -> Result<(), AllocError>
+    requires { CanSpell format events (Frame.Run run.now) }
+    ensures ok { OnOk result (out.new.items
+        ≡ out.old.items ++ spelled_frame format (Frame.Run run.now)) }
+    ensures grows { Grows out.old.items out.new.items }
+    ensures fields { OnOk result (IsFrame format events (Frame.Run run.now)) }
+{
+    put_run_input(out, events, &run.input)?;
+    put_outcome(out, format, &run.outcome)?;
+    Ok(())
 }
 
 /// The spelling of a frame. On an error a part of it may be there.
@@ -263,11 +293,7 @@ pub fn put_frame(
             put_init_head(out, elements.len() as u32)?;
             put_elements(out, elements)?;
         }
-        Frame::Run(run) => {
-            put_u8(out, 4)?;
-            put_input(out, events, &run.input)?;
-            put_outcome(out, format, &run.outcome)?;
-        }
+        Frame::Run(run) => put_run(out, format, events, run)?,
         Frame::Terminate => put_u8(out, 5)?,
     }
     Ok(())

@@ -3,12 +3,12 @@ ghost use Rattle.std.specs.Prelude.{◌≡◌};
 
 use crate::run_writer::counts::Counts;
 use crate::run_writer::frame_parts::{count_blocks, write_parts};
-use crate::run_writer::run_frames::{frame_of, long_run, refusals, run_in};
+use crate::run_writer::run_frames::{long_run, refusals};
 use cycle_engine::{Desk, Engine};
 use det_io::{Failure, Sink, write_all};
 use det_values::{CycleInput, DrawnElements, Frame, Profile, RunFrame};
 use job::{Job, Pool};
-use record_codec::{encode_frame, encode_header, encode_init_head, encode_run_ends};
+use record_codec::{encode_frame, encode_header, encode_init_head, encode_run, encode_run_ends};
 use std::alloc::{AllocError, Global};
 
 /// An engine, the profile of its run, and the counts of the record that was written so far.
@@ -108,9 +108,8 @@ impl<J: Job> Recording<J> {
         let run = self.run_cycle(pool, input)?;
         self.counts.cycles = self.engine.cycles();
         self.counts.refused += refusals(&run);
-        let frame = frame_of(run);
-        self.write_frame(&frame, sink)?;
-        Ok(run_in(frame))
+        self.write_run(&run, sink)?;
+        Ok(run)
     }
 
     /// Runs the next cycle on a pool and returns its frame, which is neither written nor counted.
@@ -195,7 +194,8 @@ impl<J: Job> Recording<J> {
             (failure_of result) }
     {
         self.engine.stop();
-        self.write_frame(&Frame::Terminate, sink)?;
+        self.spell(&Frame::Terminate)?;
+        self.write(sink)?;
         Ok(self.counts)
     }
 
@@ -265,31 +265,45 @@ impl<J: Job> Recording<J> {
         encode_frame(self.profile.format, events, frame, &mut self.buffer)
     }
 
-    /// Writes a frame and counts its bytes.
-    fn write_frame<K: Sink>(&mut self, frame: &Frame, sink: &mut K) -> Result<(), Failure>
-        requires { CanSpell self.old.profile.format (length self.old.profile.events) frame.now }
+    /// Encodes the frame of a run into the buffer.
+    fn spell_run(&mut self, run: &RunFrame) -> Result<(), AllocError>
+        requires { CanSpell self.old.profile.format (length self.old.profile.events)
+            (Frame.Run run.now) }
+        ensures bytes { OnOk result (self.new.buffer.items
+            ≡ spelled_frame self.old.profile.format (Frame.Run run.now)) }
+        ensures keeps { Keeps self.old self.new }
+    {
+        self.buffer.clear();
+        let events = self.profile.events.len() as u16;
+        encode_run(self.profile.format, events, run, &mut self.buffer)
+    }
+
+    /// Writes the frame of a run and counts its bytes.
+    fn write_run<K: Sink>(&mut self, run: &RunFrame, sink: &mut K) -> Result<(), Failure>
+        requires { CanSpell self.old.profile.format (length self.old.profile.events)
+            (Frame.Run run.now) }
         ensures took { OnOk result (Grew (K.took sink.old) (K.took sink.new)
-            (spelled_frame self.old.profile.format frame.now)) }
+            (spelled_frame self.old.profile.format (Frame.Run run.now))) }
         ensures counts_after { OnOk result (self.new.counts ≡ counts_after self.old.counts
-            (spelled_frame self.old.profile.format frame.now)) }
+            (spelled_frame self.old.profile.format (Frame.Run run.now))) }
         ensures engine { self.new.engine ≡ self.old.engine }
         ensures profile { self.new.profile ≡ self.old.profile }
         ensures cut { IfErr result (λ failure. Cuts failure (K.took sink.old) (K.took sink.new)
-            (spelled_frame self.old.profile.format frame.now)) }
+            (spelled_frame self.old.profile.format (Frame.Run run.now))) }
         ensures traffic { SinkTraffic (sink_run K.took K.faults sink.old sink.new)
             (failure_of result) }
     {
-        if let Some((input, elements, output)) = long_run(self.profile.format, frame) {
-            return self.write_run(input, elements, output, sink);
+        if let Some((input, elements, output)) = long_run(self.profile.format, run) {
+            return self.write_long_run(input, elements, output, sink);
         }
-        self.spell(frame)?;
+        self.spell_run(run)?;
         self.write(sink)
     }
 
     /// Writes the frame of a finished run in format Two and counts its bytes. The blocks of
     /// elements are written from the memory they are in. All memory is allocated before the first
     /// write.
-    fn write_run<K: Sink>(
+    fn write_long_run<K: Sink>(
         &mut self,
         input: &CycleInput,
         elements: &DrawnElements,

@@ -16,7 +16,6 @@ use Rattle.det_values.specs.declared.frames.DrawnElement.{DrawnElement}
 use Rattle.det_values.specs.declared.frames.Outcome.{Outcome}
 use Rattle.det_values.specs.declared.frames.Outcome.TheVariants.{Finished, Refused}
 use Rattle.det_values.specs.declared.frames.RunFrame.{RunFrame}
-use Rattle.det_values.specs.declared.frames.Frame.{Frame}
 use Rattle.det_values.specs.declared.frames.Frame.TheVariants.{Register, Discover, Init, Run, Terminate}
 use Rattle.job.specs.Meaning.{Meaning}
 use Rattle.cycle_engine.specs.Engine.{EngineState, StandsFor as EngineStands}
@@ -66,15 +65,6 @@ counted-first : (bytes : List ℕ) → counted (0 + length bytes) ≡ counted (l
 counted-first bytes = let sum : 0 + length bytes ≡ length bytes = omega arith in ap counted sum
 
 module _ {S G E L P : Type 0} (m : Meaning S G E L P) where
-  -- the frame of the next run can be spelled
-  pub can_spell : (profile : ProfileValue) (given : List CycleInput) (input : CycleInput) (run : RunFrame) (frame : Frame)
-      → run ≡ frame_of m profile given (state_of m profile given) input → frame ≡ Run run
-      → All (λ (s : SampleValue). s.event < length profile.events) input.samples → CanSpell profile.format (length profile.events) frame
-  can_spell profile given input run frame run_is frame_is known =
-      let all : CanSpell profile.format (length profile.events) (Run (frame_of m profile given (state_of m profile given) input)) =
-      (known, may_draw profile.format _) in
-      rw (frame_is, run_is) all
-
   -- the frame that the engine returns can be spelled
   pub spelled-run : {F : Type 0} (engine : EngineState S G E) (profile : ProfileValue) (given : List CycleInput) (input : CycleInput)
       (result : Result RunFrame F)
@@ -83,7 +73,9 @@ module _ {S G E L P : Type 0} (m : Meaning S G E L P) where
       → EngineStands m profile engine given → All (λ (s : SampleValue). s.event < length profile.events) input.samples
       → IfOk result (λ run. CanSpell profile.format (length profile.events) (Run run))
   spelled-run engine profile given input (Ok run) is stands known =
-      can_spell profile given input run (Run run) (is profile given stands) refl known
+      let all : CanSpell profile.format (length profile.events) (Run (frame_of m profile given (state_of m profile given) input)) =
+      (known, may_draw profile.format _) in
+      rw (is profile given stands) all
   spelled-run engine profile given input (Err e) is stands known = tt
 
   -- no more refused cycles than cycles
@@ -177,7 +169,3 @@ module _ {S G E L P : Type 0} (m : Meaning S G E L P) where
     bytes = ap (λ (k : Counts). k.bytes) is ∙ counted-then old.counts.bytes (record_with m old.profile given false) _ _ h.counts.bytes
         (record-ended m old.profile given);
   }
-
--- two runs of one frame are the same
-pub same_run : (frame : Frame) (run other : RunFrame) → frame ≡ Run run → frame ≡ Run other → run ≡ other
-same_run frame run other p q = let same : ◌≡◌ {A = Frame} (Run run) (Run other) = sym p ∙ q in cc

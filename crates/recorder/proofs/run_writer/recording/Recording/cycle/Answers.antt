@@ -1,12 +1,10 @@
 use Rattle.std.proofs.Common.{◌≡◌, ◌<◌, ◌≤◌, ◌+◌, ℕ, [], ◌∷◌, ◌++◌, sym, ap, subst, ◌∙◌, arith}
-use Rattle.det_values.specs.declared.frames.Frame.{Frame}
 use Rattle.det_values.specs.declared.frames.Frame.TheVariants.{Run}
-use Rattle.det_io.specs.Sink.{Grew}
 use Rattle.cycle_engine.specs.Engine.{StandsFor as EngineStands}
 use Rattle.record_grammar.specs.Spelling.{spelled_frame}
 use Rattle.recorder.specs.declared.run_writer.counts.Counts.{Counts}
 use Rattle.recorder.specs.run_writer.Recording.{counts_after}
-use Rattle.recorder.proofs.lemmas.run_writer.Framing.{few_refused, stands-next, same_run}
+use Rattle.recorder.proofs.lemmas.run_writer.Framing.{few_refused, stands-next}
 use Rattle.recorder.proofs.run_writer.recording.Recording.cycle.Goals as goal
 
 pub overflow_add-self : goal.overflow_add-self
@@ -26,14 +24,13 @@ pub returns-clause-ran : goal.returns-clause-ran
 returns-clause-ran g c given h =
     let old = c.args.self.now in
     let profile = old.profile in
-    let new = c.write_frame.new.self in
+    let new = c.write_run.new.self in
     let same_counts : c.run_cycle.new.self.counts ≡ old.counts = ap (λ r. r.counts) c.run_cycle.ensures.keeps in
     let same_profile : c.run_cycle.new.self.profile ≡ profile = ap (λ r. r.profile) c.run_cycle.ensures.keeps in
-    let wrote_it = rw (same_counts, same_profile) at c.in_ok-write_frame.ensures in
+    let wrote_it = rw (same_counts, same_profile) at c.in_ok-write_run.ensures in
     let run_is = c.in_ok-run.ensures.frame given h.engine in
     let counts : ℕ → Counts = λ n. record { cycles = n; refused = old.counts.refused + c.refusals.result; bytes = old.counts.bytes } in
-    let all = wrote_it.counts_after ∙ ap (λ (f : Frame). counts_after (counts c.cycles-self.result) (spelled_frame profile.format f))
-    c.frame_of-frame.ensures
+    let all = wrote_it.counts_after
     ∙ ap (λ n. counts_after (counts n) (spelled_frame profile.format (Run c.in_ok-run.run')))
     (c.cycles-self.ensures ∙ ap (λ e. e.cycles) (sym wrote_it.engine)) in
     record {
@@ -41,7 +38,6 @@ returns-clause-ran g c given h =
           (subst (λ e. EngineStands g.J.Job.meaning profile e (given ++ c.args.input ∷ [])) (sym wrote_it.engine)
           (c.in_ok-run.ensures.stands given h.engine))
           (ap (λ e. e.stopped) wrote_it.engine ∙ c.in_ok-run.ensures.going) wrote_it.profile c.refusals.ensures.refusals all;
-      run = same_run c.frame_of-frame.result c.run_in.result c.in_ok-run.run' c.run_in.ensures c.frame_of-frame.ensures ∙ run_is;
-      took = subst (λ (f : Frame). Grew (g.K.Sink.took c.args.sink.now) (g.K.Sink.took c.write_frame.new.sink)
-          (spelled_frame profile.format f)) c.run_in.ensures wrote_it.took;
+      run = run_is;
+      took = wrote_it.took;
     }

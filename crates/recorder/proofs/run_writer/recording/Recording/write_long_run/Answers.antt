@@ -3,7 +3,7 @@ use Rattle.std.proofs.lemmas.Result.{err_from_is_err_and}
 use Rattle.det_io.specs.Sink.{Grew, GrewShort}
 use Rattle.det_values.specs.Spelling.{spelled_all}
 use Rattle.recorder.proofs.lemmas.run_writer.Parting.{parts-are, counts_after-parts}
-use Rattle.recorder.proofs.run_writer.recording.Recording.write_run.Goals as goal
+use Rattle.recorder.proofs.run_writer.recording.Recording.write_long_run.Goals as goal
 
 pub returns-in_err-write_parts-clause-cut : goal.returns-in_err-write_parts-clause-cut
 returns-in_err-write_parts-clause-cut g c =
