@@ -11,7 +11,7 @@ use Rattle.det_values.specs.declared.frames.CycleInput.{CycleInput}
 use Rattle.stimulus.specs.Lines.{line_of}
 use Rattle.stimulus.specs.Places.{Place, First, Between, Inside, Ended, Step, step, empty_block, with_sample, taken}
 use Rattle.stimulus.specs.Reading.{Reading, reading, reading_from, parts, at_end, text_step, go_on, inputs_of}
-use Rattle.stimulus.proofs.Going.{open_items}
+use Rattle.stimulus.proofs.Going.{open_line}
 
 pub inputs_append : (xs ys : List StimulusItem) → inputs_of (xs ++ ys) ≡ inputs_of xs ++ inputs_of ys
 inputs_append [] ys = refl
@@ -95,7 +95,7 @@ unfolding reading_from
 reading_few events p [] h = omega arith
 reading_few events p (line ∷ []) h =
     let e : length (inputs_of (at_end p line).items)
-    ≡ 0 = ap (λ (l : List StimulusItem). length (inputs_of l)) (open_items p line) in omega arith
+    ≡ 0 = ap (λ (l : List StimulusItem). length (inputs_of l)) (open_line p line).0 in omega arith
 reading_few events p (line ∷ next ∷ texts) h =
     go_on_few p line (text_step events p line) (λ q. reading_from events q (next ∷ texts)) (taken_at_few events p line h)
     (λ q k. reading_few events q (next ∷ texts) k)

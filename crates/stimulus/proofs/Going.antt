@@ -116,20 +116,13 @@ pub at_open : (events : ℕ) (place : Place) (line : List ℕ) → reading_from 
 unfolding reading_from
 at_open events place line = refl
 
--- a line that isn't whole completes nothing
-pub open_items : (place : Place) (line : List ℕ) → (at_end place line).items ≡ []
-open_items Ended [] = refl
-open_items Ended (b ∷ bs) = refl
-open_items First line = refl
-open_items Between line = refl
-open_items (Inside n input) line = refl
-
-pub open_head : (place : Place) (line : List ℕ) → (at_end place line).head ≡ []
-open_head Ended [] = refl
-open_head Ended (b ∷ bs) = refl
-open_head First line = refl
-open_head Between line = refl
-open_head (Inside n input) line = refl
+-- a line that isn't whole completes nothing, and isn't among the good ones
+pub open_line : (place : Place) (line : List ℕ) → ((at_end place line).items ≡ []) × ((at_end place line).head ≡ [])
+open_line Ended [] = (refl, refl)
+open_line Ended (b ∷ bs) = (refl, refl)
+open_line First line = (refl, refl)
+open_line Between line = (refl, refl)
+open_line (Inside n input) line = (refl, refl)
 
 pub open_fed : (place : Place) (line : List ℕ) → length line ≤ 128 → ¬ ((place ≡ Ended) × (0 < length line))
     → (at_end place line).bad_is_fed ≡ false

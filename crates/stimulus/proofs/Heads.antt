@@ -16,7 +16,7 @@ use Rattle.stimulus.specs.Reading.{Reading, Terminated, BadLine, reading, readin
 use Rattle.stimulus.specs.Reading.{text_step, go_on, inputs_of, ending_of}
 use Rattle.stimulus.specs.GoodLines.{ends, MayStand, InOrder, blocks_in, without_last, IsFed, IsHead}
 use Rattle.stimulus.proofs.Parts.{IsSome_parts, some_parts}
-use Rattle.stimulus.proofs.Going.{open_head, taken_there, ended_there}
+use Rattle.stimulus.proofs.Going.{open_line, taken_there, ended_there}
 use Rattle.stimulus.proofs.Places.{At, Leads, leads, leads_on, none_counted}
 
 -- lines that are good after earlier ones
@@ -196,7 +196,7 @@ no_lines events texts (l ∷ ls) same none = let e : [] ≡ Some l ∷ map Some 
 ended_head : (events : ℕ) (texts : List (List ℕ)) → (reading_from events Ended texts).head ≡ []
 unfolding reading_from
 ended_head events [] = refl
-ended_head events (line ∷ []) = open_head Ended line
+ended_head events (line ∷ []) = (open_line Ended line).1
 ended_head events (line ∷ next ∷ texts) =
     ap (λ s. (go_on line s (λ p. reading_from events p (next ∷ texts))).head) (ended_there events line)
 

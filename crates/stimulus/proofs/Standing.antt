@@ -16,7 +16,7 @@ use Rattle.stimulus.specs.StandsFor.{StandsFor, Resumes, Gives, FoundBad, NextIs
 use Rattle.stimulus.specs.Steps.{BadIs, IsPastEnd}
 use Rattle.stimulus.proofs.Within.{next_within}
 use Rattle.stimulus.proofs.Counting.{next_few}
-use Rattle.stimulus.proofs.Going.{at_open, open_items, open_head, open_fed, open_missing, ended_whole, after_bad}
+use Rattle.stimulus.proofs.Going.{at_open, open_line, open_fed, open_missing, ended_whole, after_bad}
 
 -- what is read in a state on
 abbrev pub from : StimulusParser → List ℕ → Reading
@@ -124,7 +124,7 @@ next_open old new bytes given none nothing short one other events lines state fa
     let now : reading new.events bytes ≡ after h.head given (at_end (place_of old.state) (left old)) = ap (λ e. reading e bytes) events
     ∙ read_to_open old bytes given none nothing one h in
     let all : (reading new.events bytes).items ≡ given = ap (λ (r : Reading). r.items) now
-    ∙ ap (λ l. given ++ l) (open_items (place_of old.state) (left old)) ∙ append-nil given in (
+    ∙ ap (λ l. given ++ l) (open_line (place_of old.state) (left old)).0 ∙ append-nil given in (
       standing new h.head bytes given (fault ∙ none) (on.0 ∙ sym lines)
           (λ tail. ap (λ e. reading e (bytes ++ tail)) events ∙ on.1 tail
           ∙ (λ i. after h.head (given ++ items_to_give (sym state i)) (reading_from (sym events i) (place_of (sym state i))
@@ -188,7 +188,7 @@ finish_bad r bytes given none settled other h =
     let p : Place = place_of r.state in
     ap ending_of (at_last r bytes given none settled h)
     ∙ bad_ending h.head given (at_end p (left r)) (open_missing p (left r)
-    (missing_there r.state (left r) (h.settled settled none).1 other)) (open_head p (left r))
+    (missing_there r.state (left r) (h.settled settled none).1 other)) (open_line p (left r)).1
     ∙ ap (λ n. BadLine (n + 1)) (resumes r bytes given none h).0
 
 -- if the end isn't still to be returned, nothing is

@@ -21,7 +21,7 @@ use Rattle.stimulus.specs.Lines.{cycle_line, sample_words, sample_line, line_of}
 use Rattle.stimulus.specs.Places.{Place, First, Between, Inside, Ended, Step, step, empty_block, with_sample, taken}
 use Rattle.stimulus.specs.Limits.{IsTime, IsSample, IsLine, IsInput, IsItem}
 use Rattle.stimulus.specs.Reading.{Reading, reading, reading_from, parts, at_end, text_step, go_on}
-use Rattle.stimulus.proofs.Going.{open_items}
+use Rattle.stimulus.proofs.Going.{open_line}
 
 abbrev IfNumber : ℕ → Option ℕ → Type 0
 IfNumber limit None = Unit {0}
@@ -192,7 +192,7 @@ reading_within : (events : ℕ) (p : Place) (texts : List (List ℕ)) → IsPlac
     All (IsItem events) (reading_from events p texts).items
 unfolding reading_from
 reading_within events p [] h = no_items events
-reading_within events p (line ∷ []) h = All-same (IsItem events) (at_end p line).items [] (open_items p line) (no_items events)
+reading_within events p (line ∷ []) h = All-same (IsItem events) (at_end p line).items [] (open_line p line).0 (no_items events)
 reading_within events p (line ∷ next ∷ texts) h =
     go_on_within events line (text_step events p line) (λ q. reading_from events q (next ∷ texts)) (taken_at_within events p line h)
     (λ q k. reading_within events q (next ∷ texts) k)

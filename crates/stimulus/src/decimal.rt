@@ -1,5 +1,5 @@
 //! Decimal numbers: no leading zero, no plus sign, no `-0`.
-ghost use Rattle.std.specs.Prelude.{◌≡◌, ◌≤◌, ◌<◌, ◌^◌, length, IfSome};
+ghost use Rattle.std.specs.Prelude.{◌≡◌, ◌≤◌, ◌<◌, ◌^◌, ◌-◌, ◌⊎◌, length, IfSome, IfNone};
 ghost use Rattle.det_values.specs.Limits.{IsSampleValue};
 ghost use Rattle.stimulus.specs.Numbers.{number, number_after, below, value_of};
 
@@ -38,6 +38,17 @@ fn digits_below(limit: u128, bytes: &[u8]) -> Option<u64>
     }
 }
 
+/// The value of a digit. None for any other byte.
+fn digit_value(byte: u8) -> Option<u8>
+    ensures some { IfSome result (λ value. (48 ≤ byte) × (byte ≤ 57) × (value ≡ byte - 48)) }
+    ensures none { IfNone result ((byte < 48) ⊎ (57 < byte)) }
+{
+    match byte {
+        b'0'..=b'9' => Some(byte - b'0'),
+        _ => None,
+    }
+}
+
 /// The number that at most 19 digits spell.
 fn few_digits(bytes: &[u8]) -> Option<u64>
     requires { length bytes.now ≤ 19 }
@@ -45,14 +56,8 @@ fn few_digits(bytes: &[u8]) -> Option<u64>
 {
     let mut value: u64 = 0;
     for read in 0..bytes.len() {
-        let digit = bytes[read];
-        if digit < b'0' {
-            return None;
-        }
-        if digit > b'9' {
-            return None;
-        }
-        value = value * 10 + (digit - b'0') as u64;
+        let digit = digit_value(bytes[read])?;
+        value = value * 10 + digit as u64;
     }
     Some(value)
 }
@@ -65,14 +70,8 @@ fn many_digits_below(limit: u128, bytes: &[u8]) -> Option<u64>
 {
     let mut value: u64 = 0;
     for read in 0..bytes.len() {
-        let digit = bytes[read];
-        if digit < b'0' {
-            return None;
-        }
-        if digit > b'9' {
-            return None;
-        }
-        let next = value as u128 * 10 + (digit - b'0') as u128;
+        let digit = digit_value(bytes[read])?;
+        let next = value as u128 * 10 + digit as u128;
         if next >= limit {
             return None;
         }

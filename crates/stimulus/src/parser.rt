@@ -66,7 +66,7 @@ impl StimulusParser {
         }
     }
 
-    /// Takes the next bytes of the text. On `OutOfMemory` no byte is taken, and the reader goes on
+    /// Takes the next bytes of the text. On `AllocError` no byte is taken, and the reader goes on
     /// as before. Bytes after a bad line that was returned are dropped.
     pub fn feed(&mut self, piece: &[u8]) -> Result<(), AllocError>
         ensures events { self.new.events ≡ self.old.events }
@@ -84,9 +84,7 @@ impl StimulusParser {
         }
         let read = self.read;
         self.read = drop_read(&mut self.pending, read);
-        if self.pending.extend_from_slice(piece).is_err() {
-            return Err(AllocError);
-        }
+        self.pending.extend_from_slice(piece)?;
         self.settled = false;
         Ok(())
     }

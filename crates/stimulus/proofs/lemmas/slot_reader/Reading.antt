@@ -1,5 +1,5 @@
 -- The results of a text's reader, as those of a slot's reader.
-use Rattle.std.proofs.Common.{◌≡◌, ◌≤◌, inl, inr, ℕ, List, [], ◌∷◌, ◌++◌, length, take, Option, Some, None, Result, Ok, Err}
+use Rattle.std.proofs.Common.{◌≡◌, ◌≤◌, inl, inr, ℕ, List, [], ◌∷◌, ◌++◌, length, take, Bool, Option, Some, None, Result, Ok, Err}
 use Rattle.std.proofs.Common.{refl, sym, ap, subst, ◌∙◌, append_assoc, append-nil}
 use Rattle.det_io.specs.Prefix.{IsPrefix}
 use Rattle.det_io.specs.Shelf.{ShelfState, Reads}
@@ -20,7 +20,7 @@ use Rattle.stimulus.specs.StandsFor.{StandsFor as Stands, NextIs}
 use Rattle.stimulus.proofs.Growing.{inputs_then, inputs_end, stands_within, blocks_grow}
 use Rattle.stimulus.specs.declared.slot_reader.stimulus_reader.StimulusReader.{StimulusReader}
 use Rattle.stimulus.specs.slot_reader.StandsFor.{StandsFor, InputIs, ReadsIfNeeded, slot_of, events_of}
-use Rattle.stimulus.specs.slot_reader.Steps.{stopped_by, Hungers, GaveAll}
+use Rattle.stimulus.specs.slot_reader.Steps.{stopped_by, Hungers, GaveAll, PieceIs}
 
 -- ---- what was fed
 
@@ -169,6 +169,15 @@ read-then {mid = mid} {after = after} old at Q same events p q = (
             (subst (λ (xs : List ℕ). Q (slot_of at) xs given) (append_assoc read p.0 q.0) (q.2 (read ++ p.0) given s.1)),
       ),
 )
+
+-- a piece was read, with this result
+abbrev HasPiece : ShelfState → ShelfState → StimulusReader → StimulusReader → Type 0 → Bool → Type 0
+HasPiece before after at new at_end goes_on = (more : List ℕ) × Reads before after (slot_of at) more
+    × ((read : List ℕ) (given : List CycleInput) → GaveAll at read given → PieceIs (Ok goes_on) new at_end (read ++ more) given)
+
+pub piece-as : {before after : ShelfState} (at new : StimulusReader) (at_end : Type 0) (result other : Bool) → result ≡ other
+    → HasPiece before after at new at_end result → HasPiece before after at new at_end other
+piece-as {before = before} {after = after} at new at_end result other is piece = subst (HasPiece before after at new at_end) is piece
 
 -- how what was fed stopped is how the reader stops
 pub stops-as : (why : Stopped StimulusFault) (r : StimulusReader) (at_end : Type 0) (read : List ℕ) (given : List CycleInput)

@@ -1,13 +1,24 @@
-use Rattle.std.proofs.Common.{◌≡◌, [], ◌++◌, inl, refl, ◌∙◌, subst, arith}
-use Rattle.std.specs.Prelude.{Option, None, Some, Ok, Err, Bool, true, false}
+use Rattle.std.proofs.Common.{◌≡◌, [], inl, refl, ◌∙◌, subst, arith}
+use Rattle.std.specs.Prelude.{Option, None, Some, Ok, Err, true, false}
 use Rattle.std.proofs.lemmas.Result.{err_from_is_err_and}
 use Rattle.det_io.specs.Shelf.{IsAtEnd}
 use Rattle.det_io.proofs.SlotReads.{reads-none}
 use Rattle.det_values.specs.declared.frames.CycleInput.{CycleInput}
 use Rattle.stimulus.specs.slot_reader.StandsFor.{StandsFor, InputIs, slot_of}
-use Rattle.stimulus.specs.slot_reader.Steps.{FedIs, GaveAll, PieceIs}
-use Rattle.stimulus.proofs.lemmas.slot_reader.Reading.{read-none, fed-then, read-then, stops-as, no-read, none-of}
+use Rattle.stimulus.specs.slot_reader.Steps.{FedIs, GaveAll}
+use Rattle.stimulus.proofs.lemmas.slot_reader.Reading.{HasRead, read-none, fed-then, read-then, piece-as, stops-as, no-read, none-of}
+use Rattle.stimulus.proofs.slot_reader.stimulus_reader.StimulusReader.next_input.Given.{Over}
+use Rattle.stimulus.proofs.slot_reader.stimulus_reader.StimulusReader.next_input.Goals.{After-read_on}
 use Rattle.stimulus.proofs.slot_reader.stimulus_reader.StimulusReader.next_input.Goals as goal
+
+-- all blocks of what was fed were returned
+gave-all : (g : Over) (c : After-read_on g)
+    → HasRead (g.S.Slots.sees c.args.shelf.now) (g.S.Slots.sees c.pieces.shelf) c.args.self.now (GaveAll c.next_fed_input.new.self)
+gave-all g c =
+    let at = c.next_fed_input.new.self in
+    let none : c.in_ok-input.field-0 ≡ None = none-of c.in_ok-input.field-0 c.in_default.not-Some in
+    fed-then c.args.self.now (StandsFor c.pieces.self) (GaveAll at) c.pieces.invariant.read
+    (λ read given h. subst (λ (o : Option CycleInput). FedIs (Ok o) at read given) none (c.in_ok-input.ensures.input read given h))
 
 pub pieces-init : goal.pieces-init
 pieces-init g c = record {
@@ -43,9 +54,7 @@ pub returns-in_err-read_on-clause-input : goal.returns-in_err-read_on-clause-inp
 returns-in_err-read_on-clause-input g c =
     let p = err_from_is_err_and c.from_residual-in_err-read_on.result c.from_residual-in_err-read_on.ensures.1 in
     let at = c.next_fed_input.new.self in
-    let none : c.in_ok-input.field-0 ≡ None = none-of c.in_ok-input.field-0 c.in_default.not-Some in
-    let gave = fed-then c.args.self.now (StandsFor c.pieces.self) (GaveAll at) c.pieces.invariant.read
-    (λ read given h. subst (λ (o : Option CycleInput). FedIs (Ok o) at read given) none (c.in_ok-input.ensures.input read given h)) in
+    let gave = gave-all g (goal.at.returns-in_err-read_on-clause-input g c).After-read_on in
     let why = c.in_err-read_on.field-0.0 in
     rw (p.1, p.2) (read-then c.args.self.now at (λ slot. InputIs (Err why) c.read_on.new.self
     (IsAtEnd (g.S.Slots.sees c.read_on.new.shelf) slot))
@@ -55,37 +64,23 @@ returns-in_err-read_on-clause-input g c =
 pub returns-then-not-branch-clause-input : goal.returns-then-not-branch-clause-input
 returns-then-not-branch-clause-input g c =
     let at = c.next_fed_input.new.self in
-    let none : c.in_ok-input.field-0 ≡ None = none-of c.in_ok-input.field-0 c.in_default.not-Some in
-    let gave = fed-then c.args.self.now (StandsFor c.pieces.self) (GaveAll at) c.pieces.invariant.read
-    (λ read given h. subst (λ (o : Option CycleInput). FedIs (Ok o) at read given) none (c.in_ok-input.ensures.input read given h)) in
+    let gave = gave-all g (goal.at.returns-then-not-branch-clause-input g c).After-read_on in
     let ends : c.in_ok-read_on.field-0 ≡ false = cc in
-    let q = c.in_ok-read_on.ensures.piece in
     read-then c.args.self.now at (λ slot. InputIs (Ok None) c.read_on.new.self (IsAtEnd (g.S.Slots.sees c.read_on.new.shelf) slot))
-    (c.in_ok-input.ensures.slot ∙ c.pieces.invariant.slot) (c.in_ok-input.ensures.events ∙ c.pieces.invariant.events) gave (
-      q.0,
-      q.1,
-      λ read given h. subst (λ (b : Bool). PieceIs (Ok b) c.read_on.new.self
-          (IsAtEnd (g.S.Slots.sees c.read_on.new.shelf) (slot_of at)) (read ++ q.0) given) ends (q.2 read given h),
-    )
+    (c.in_ok-input.ensures.slot ∙ c.pieces.invariant.slot) (c.in_ok-input.ensures.events ∙ c.pieces.invariant.events) gave
+    (piece-as at c.read_on.new.self _ _ false ends c.in_ok-read_on.ensures.piece)
 
 pub pieces-preserved : goal.pieces-preserved
 pieces-preserved g c =
     let at = c.next_fed_input.new.self in
-    let none : c.in_ok-input.field-0 ≡ None = none-of c.in_ok-input.field-0 c.in_default.not-Some in
-    let gave = fed-then c.args.self.now (StandsFor c.pieces.self) (GaveAll at) c.pieces.invariant.read
-    (λ read given h. subst (λ (o : Option CycleInput). FedIs (Ok o) at read given) none (c.in_ok-input.ensures.input read given h)) in
+    let gave = gave-all g (goal.at.pieces-preserved g c).After-read_on in
     let goes : c.in_ok-read_on.field-0 ≡ true = cc in
-    let q = c.in_ok-read_on.ensures.piece in
     let slot = c.in_ok-input.ensures.slot ∙ c.pieces.invariant.slot in
     let events = c.in_ok-input.ensures.events ∙ c.pieces.invariant.events in
     let traffic = c.in_ok-read_on.ensures.traffic in
     record {
-      read = read-then c.args.self.now at (λ slot. StandsFor c.read_on.new.self) slot events gave (
-        q.0,
-        q.1,
-        λ read given h. subst (λ (b : Bool). PieceIs (Ok b) c.read_on.new.self
-            (IsAtEnd (g.S.Slots.sees c.read_on.new.shelf) (slot_of at)) (read ++ q.0) given) goes (q.2 read given h),
-      );
+      read = read-then c.args.self.now at (λ slot. StandsFor c.read_on.new.self) slot events gave
+          (piece-as at c.read_on.new.self _ _ true goes c.in_ok-read_on.ensures.piece);
       slot = c.in_ok-read_on.ensures.slot ∙ slot;
       events = c.in_ok-read_on.ensures.events ∙ events;
       traffic = record {

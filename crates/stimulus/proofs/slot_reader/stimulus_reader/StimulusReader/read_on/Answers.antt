@@ -4,30 +4,40 @@ use Rattle.det_io.specs.Shelf.{Reads, IsAtEnd}
 use Rattle.det_io.specs.declared.failure.Stopped.TheVariants.{Refused}
 use Rattle.stimulus.specs.slot_reader.StandsFor.{InputIs, slot_of}
 use Rattle.stimulus.proofs.lemmas.slot_reader.Reading.{read-none, took-none, ended-whole, ended-bad, fed-on, unfed}
+use Rattle.stimulus.proofs.slot_reader.stimulus_reader.StimulusReader.read_on.Given.{Over}
+use Rattle.stimulus.proofs.slot_reader.stimulus_reader.StimulusReader.read_on.Goals.{After-finish}
 use Rattle.stimulus.proofs.slot_reader.stimulus_reader.StimulusReader.read_on.Goals as goal
+
+-- nothing was read, at the slot's end
+no-more : (g : Over) (c : After-finish g)
+    → Reads (g.S.Slots.sees c.args.shelf.now) (g.S.Slots.sees c.read.new.self) (slot_of c.args.self.now) []
+    × IsAtEnd (g.S.Slots.sees c.read.new.self) (slot_of c.args.self.now)
+no-more g c = (
+  subst (λ (xs : List ℕ). Reads (g.S.Slots.sees c.args.shelf.now) (g.S.Slots.sees c.read.new.self) (slot_of c.args.self.now) xs)
+      (took-none c.in_ok-n.n c.read.new.buf c.if-n-eq0.true) c.in_ok-n.ensures.reads,
+  c.in_ok-n.ensures.end c.if-n-eq0.true (omega arith),
+)
 
 pub returns-in-Ok-clause-piece : goal.returns-in-Ok-clause-piece
 returns-in-Ok-clause-piece g c =
     let r = c.args.self.now in
     let after = g.S.Slots.sees c.read.new.self in
-    let at : IsAtEnd after (slot_of r) = c.in_ok-n.ensures.end c.if-n-eq0.true (omega arith) in (
+    let end = no-more g (goal.at.returns-in-Ok-clause-piece g c).After-finish in (
       [],
-      subst (λ (xs : List ℕ). Reads (g.S.Slots.sees c.args.shelf.now) after (slot_of r) xs)
-          (took-none c.in_ok-n.n c.read.new.buf c.if-n-eq0.true) c.in_ok-n.ensures.reads,
+      end.0,
       λ read given h. read-none (λ (xs : List ℕ). InputIs (Ok None) r (IsAtEnd after (slot_of r)) xs given) read
-          (ended-whole r _ read given at (c.in-Ok.ensures read) h),
+          (ended-whole r _ read given end.1 (c.in-Ok.ensures read) h),
     )
 
 pub returns-in-Err-clause-piece : goal.returns-in-Err-clause-piece
 returns-in-Err-clause-piece g c =
     let r = c.args.self.now in
     let after = g.S.Slots.sees c.read.new.self in
-    let at : IsAtEnd after (slot_of r) = c.in_ok-n.ensures.end c.if-n-eq0.true (omega arith) in (
+    let end = no-more g (goal.at.returns-in-Err-clause-piece g c).After-finish in (
       [],
-      subst (λ (xs : List ℕ). Reads (g.S.Slots.sees c.args.shelf.now) after (slot_of r) xs)
-          (took-none c.in_ok-n.n c.read.new.buf c.if-n-eq0.true) c.in_ok-n.ensures.reads,
+      end.0,
       λ read given h. read-none (λ (xs : List ℕ). InputIs (Err (Refused c.in-Err.fault)) r (IsAtEnd after (slot_of r)) xs given) read
-          (ended-bad c.in-Err.fault r _ read given at (c.in-Err.ensures read) h),
+          (ended-bad c.in-Err.fault r _ read given end.1 (c.in-Err.ensures read) h),
     )
 
 pub returns-in-Ok-feed-clause-piece : goal.returns-in-Ok-feed-clause-piece
