@@ -22,13 +22,13 @@ use Rattle.manifest.proofs.Order.{or_fault, past_keys}
 abbrev pub with_job : Data → Option JobKind → Result ManifestValue ManifestFault
 with_job tree kind = ok_or (option_map (tree_manifest tree) kind) UnknownJob
 
--- where each key is known too
-pub past_unknown : (tree : Data) (strict : Bool) → first_fault tree first_keys ≡ None → first_fault tree (params_keys tree) ≡ None
-    → first_fault tree (events_keys tree) ≡ None → first_fault tree last_keys ≡ None → unknown_fault strict tree ≡ None
-    → manifest_in strict tree ≡ by_names tree
-past_unknown tree strict work params events last unknown =
+-- what a tree means whose known keys have no fault: that of an unknown key, if it is one
+pub past_unknown : (tree : Data) (strict : Bool) (unknown : Option ManifestFault) → first_fault tree first_keys ≡ None
+    → first_fault tree (params_keys tree) ≡ None → first_fault tree (events_keys tree) ≡ None → first_fault tree last_keys ≡ None
+    → unknown_fault strict tree ≡ unknown → manifest_in strict tree ≡ or_fault unknown (by_names tree)
+past_unknown tree strict unknown work params events last is =
     past_keys tree (or_fault (unknown_fault strict tree) (by_names tree)) work params events last
-    ∙ ap (λ (o : Option ManifestFault). or_fault o (by_names tree)) unknown
+    ∙ ap (λ (o : Option ManifestFault). or_fault o (by_names tree)) is
 
 -- an event has the name of an earlier one
 pub repeated : (tree : Data) (number : ℕ) → first_duplicate (events_of tree) ≡ Some number → by_names tree ≡ Err (DuplicateEvent number)

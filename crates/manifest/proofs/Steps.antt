@@ -1,5 +1,5 @@
 -- One parameter, or one event, and those after it.
-use Rattle.std.proofs.Common.{◌≡◌, ℕ, ℤ, true, false, None, Some, suc, ◌+◌, ◌-◌, ◌<◌, Option, List, [], ◌∷◌, ◌++◌, append_assoc, length}
+use Rattle.std.proofs.Common.{◌≡◌, ℕ, ℤ, Bool, None, Some, suc, ◌+◌, ◌-◌, ◌<◌, Option, List, [], ◌∷◌, ◌++◌, append_assoc, length}
 use Rattle.std.proofs.Common.{take, drop, map, get_or, bytes_eq, if◌then◌else◌, refl, ap, ◌∙◌, arith}
 use Rattle.std.proofs.lemmas.List.{drop_more, take_more}
 use Rattle.std.specs.List.{list_any, All, flat_map, range_with_len}
@@ -88,15 +88,12 @@ pub duplicate_step : (events : List EventSpecValue) (i : ℕ) (d : EventSpecValu
     (i + 1) (drop (i + 1) events))
 duplicate_step events i d h = rw (drop_more events i d h, take_more events i d h)
 
-pub is_duplicate : (events : List EventSpecValue) (i : ℕ) (d : EventSpecValue) → d ≡ get_or events i d → i < length events
-    → list_any (λ e. bytes_eq e.name d.name) (take i events) ≡ true
-    → duplicate_after (take i events) i (drop i events) ≡ Some i
-is_duplicate events i d e h same = rw (drop_more events i d h, ← e, same)
-
-pub no_duplicate : (events : List EventSpecValue) (i : ℕ) (d : EventSpecValue) → d ≡ get_or events i d → i < length events
-    → list_any (λ e. bytes_eq e.name d.name) (take i events) ≡ false
-    → duplicate_after (take i events) i (drop i events) ≡ duplicate_after (take (i + 1) events) (i + 1) (drop (i + 1) events)
-no_duplicate events i d e h other = rw (drop_more events i d h, take_more events i d h, ← e, other)
+-- whether event i is found to be one
+pub duplicate_at : (events : List EventSpecValue) (i : ℕ) (d : EventSpecValue) (repeats : Bool) → d ≡ get_or events i d → i < length events
+    → list_any (λ e. bytes_eq e.name d.name) (take i events) ≡ repeats
+    → duplicate_after (take i events) i (drop i events)
+    ≡ (if repeats then Some i else duplicate_after (take (i + 1) events) (i + 1) (drop (i + 1) events))
+duplicate_at events i d repeats e h is = rw (drop_more events i d h, take_more events i d h, ← e, is)
 
 -- a fact of each event so far, and of one more
 pub all_more : (P : EventSpecValue → Type 0) (done more : List EventSpecValue) (x : EventSpecValue)
