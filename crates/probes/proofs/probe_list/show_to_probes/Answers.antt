@@ -1,10 +1,26 @@
-use Rattle.std.proofs.Common.{◌≡◌, ◌<◌, ◌+◌, [], ◌∷◌, ◌++◌, map, length, refl, sym, ap, ◌∙◌, arith, length-append, get_or-set_same}
+use Rattle.std.proofs.Common.{◌≡◌, ℕ, List, ◌<◌, ◌+◌, [], ◌∷◌, ◌++◌, map, length, refl, sym, ap, ◌∙◌, arith, length-append, get_or-set_same}
 use Rattle.std.proofs.lemmas.List.{length-map}
 use Rattle.std.proofs.lemmas.Grind.{common_steps}
+use Rattle.std.specs.Prelude.{Result, OnErr}
 use Rattle.probes.specs.Reports.{joined}
+use Rattle.probes.specs.Shows.{ShowsPartly}
 use Rattle.probes.proofs.Joining.{partly_none, partly_all, stay-step, leave-step, join-left}
 use Rattle.probes.proofs.Seeing.{seeing-none, seeing-stay, seeing-leave, seeing-lost}
+use Rattle.probes.proofs.probe_list.show_to_probes.Given.{Over}
+use Rattle.probes.proofs.probe_list.show_to_probes.Goals.{After-remove-probe}
 use Rattle.probes.proofs.probe_list.show_to_probes.Goals as goal
+
+-- a probe left, and its report was lost
+cut-short : (g : Over) (c : After-remove-probe g) {T E : Type 0} (answer : Result T E) (now : List ℕ) → now ≡ c.loop-at.left
+    → OnErr answer (ShowsPartly
+    (record { seeing = map (λ b. (goal.Probe-dyn g (b.vtable, b.value)).life b.value) c.args.probes.now.items; left = c.args.left.now })
+    (record { seeing = map (λ b. (goal.Probe-dyn g (b.vtable, b.value)).life b.value) c.remove-probe.new.self.items; left = now })
+    c.args.run.now)
+cut-short g c answer now same =
+    let lt : c.loop-at.at < length c.loop-at.probes.items = grind (arith, common_steps) in
+    seeing-lost (λ b. (goal.Probe-dyn g (b.vtable, b.value)).life b.value) c.args.run.now c.loop-at.at c.loop-at.probes.items
+    c.index_mut.result.now _ lt c.index_mut.ensures.value _ c.args.left.now c.loop-at.left c.loop-at.invariant.seeing answer
+    c.remove-probe.new.self.items now c.remove-probe.ensures.items c.in-Leave.ensures same
 
 pub loop-at-init : goal.loop-at-init
 loop-at-init g c = record {
@@ -68,17 +84,9 @@ returns-clause-shown g c = record {
 
 pub returns-in_err-report-in-Leave-clause-partly : goal.returns-in_err-report-in-Leave-clause-partly
 returns-in_err-report-in-Leave-clause-partly g c =
-    let lt : c.loop-at.at < length c.loop-at.probes.items = grind (arith, common_steps) in
-    seeing-lost (λ b. (goal.Probe-dyn g (b.vtable, b.value)).life b.value) c.args.run.now c.loop-at.at c.loop-at.probes.items
-    c.index_mut.result.now _ lt c.index_mut.ensures.value
-    _ c.args.left.now c.loop-at.left c.loop-at.invariant.seeing _ c.remove-probe.new.self.items _ c.remove-probe.ensures.items
-    c.in-Leave.ensures refl
+    cut-short g (goal.at.returns-in_err-report-in-Leave-clause-partly g c).After-remove-probe _ _ refl
 
 pub returns-in_err-extend_from_slice-in-Leave-clause-partly : goal.returns-in_err-extend_from_slice-in-Leave-clause-partly
 returns-in_err-extend_from_slice-in-Leave-clause-partly g c =
-    let lt : c.loop-at.at < length c.loop-at.probes.items = grind (arith, common_steps) in
-    seeing-lost (λ b. (goal.Probe-dyn g (b.vtable, b.value)).life b.value) c.args.run.now c.loop-at.at c.loop-at.probes.items
-    c.index_mut.result.now _ lt c.index_mut.ensures.value
-    _ c.args.left.now c.loop-at.left c.loop-at.invariant.seeing _ c.remove-probe.new.self.items _ c.remove-probe.ensures.items
-    c.in-Leave.ensures
+    cut-short g (goal.at.returns-in_err-extend_from_slice-in-Leave-clause-partly g c).After-remove-probe _ _
     c.in_err-extend_from_slice-in-Leave.ensures.err
