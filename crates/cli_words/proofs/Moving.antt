@@ -14,7 +14,7 @@ use Rattle.cli_words.specs.Reading.{Reading, into_reading, bare_command, with_wo
 use Rattle.cli_words.specs.Reading.{command_of}
 use Rattle.cli_words.specs.Items.{Item, name, option, option_words, item_words, words_in, names_in, is_same, values_in, Gives, IsItem}
 use Rattle.cli_words.proofs.Ranging.{full-fits, not_given}
-use Rattle.cli_words.proofs.Parting.{has-own, not-own, no-name, name-no-option, more, option-step, not_given-none}
+use Rattle.cli_words.proofs.Parting.{has-own, not-own, own-option, name-no-option, more, option-step, not_given-none}
 use Rattle.cli_words.proofs.Growing.{Grows, read-given}
 use Rattle.cli_words.proofs.Spelling.{grown-name, grown-option, grows-itself, into_command-is}
 use Rattle.cli_words.proofs.Canon.{names-append, values-append}
@@ -37,7 +37,7 @@ not-had : (o : OptionWord) (c : CommandValue) → is_among (row c.word).options 
 not-had o c not =
     ap (λ (p : Option OptionWord). with_option_or_name p (option_row o).word c) (not-own (row c.word).options o not)
     ∙ ap (λ (b : Bool). cond ((b && is_of_kind (row c.word).names (option_row o).word) && nat_lt (length c.names) (row c.word).most)
-    (Some (into_reading (record c { names = c.names ++ (option_row o).word ∷ [] }))) None) (no-name o)
+    (Some (into_reading (record c { names = c.names ++ (option_row o).word ∷ [] }))) None) (own-option o).1
 
 twice : (o : OptionWord) (c : CommandValue) → is_among (row c.word).options o ≡ true → is_given o c.options ≡ true
     → with_word (option_row o).word (into_reading c) ≡ None

@@ -29,13 +29,14 @@ find-true {X} p (a ∷ rest) x e = by_test (p a) refl e (find-true p rest x) whe
   by_test true is found later = let same : a ≡ x = cc in subst (λ (y : X). p y ≡ true) same is
   by_test false is found later = later found
 
-pub own-option : (o : OptionWord) → option_word (option_row o).word ≡ Some o
-own-option Workers = refl
-own-option Seed = refl
-own-option Cycle = refl
-own-option Reports = refl
-own-option Dissent = refl
-own-option Strict = refl
+-- an option's word is its own, and no name
+pub own-option : (o : OptionWord) → (option_word (option_row o).word ≡ Some o) × (is_name (option_row o).word ≡ false)
+own-option Workers = (refl, refl)
+own-option Seed = (refl, refl)
+own-option Cycle = (refl, refl)
+own-option Reports = (refl, refl)
+own-option Dissent = (refl, refl)
+own-option Strict = (refl, refl)
 
 pub option-is : (word : List ℕ) (o : OptionWord) → option_word word ≡ Some o → (option_row o).word ≡ word
 option-is word o e =
@@ -60,24 +61,16 @@ own-command words.Chain = refl
 own-command words.Help = refl
 own-command words.Version = refl
 
-pub no-name : (o : OptionWord) → is_name (option_row o).word ≡ false
-no-name Workers = refl
-no-name Seed = refl
-no-name Cycle = refl
-no-name Reports = refl
-no-name Dissent = refl
-no-name Strict = refl
-
 chosen : OptionSet → Option OptionWord → Option OptionWord
 chosen set o = option_and_then (λ (p : OptionWord). cond (is_among set p) (Some p) None) o
 
 pub has-own : (set : OptionSet) (o : OptionWord) → is_among set o ≡ true → option_in set (option_row o).word ≡ Some o
 unfolding chosen
-has-own set o has = ap (chosen set) (own-option o) ∙ ap (λ (b : Bool). cond b (Some o) None) has
+has-own set o has = ap (chosen set) (own-option o).0 ∙ ap (λ (b : Bool). cond b (Some o) None) has
 
 pub not-own : (set : OptionSet) (o : OptionWord) → is_among set o ≡ false → option_in set (option_row o).word ≡ None
 unfolding chosen
-not-own set o not = ap (chosen set) (own-option o) ∙ ap (λ (b : Bool). cond b (Some o) None) not
+not-own set o not = ap (chosen set) (own-option o).0 ∙ ap (λ (b : Bool). cond b (Some o) None) not
 
 -- a name is no option
 pub name-no-option : (set : OptionSet) (word : List ℕ) → is_name word ≡ true → option_in set word ≡ None
@@ -85,7 +78,7 @@ unfolding chosen
 name-no-option set word is = by_option (option_word word) refl where
   by_option : (o : Option OptionWord) → option_word word ≡ o → chosen set o ≡ None
   by_option (Some o) e = let other : is_name word ≡ false =
-      subst (λ (w : List ℕ). is_name w ≡ false) (option-is word o e) (no-name o) in absurd cc
+      subst (λ (w : List ℕ). is_name w ≡ false) (option-is word o e) (own-option o).1 in absurd cc
   by_option None e = refl
 
 pub in-range : (range : Option (ℕ × ℕ)) (n : ℕ) → is_some range ≡ true → IsWithin range n → is_in_range range n ≡ true

@@ -4,9 +4,9 @@ use Rattle.std.proofs.Common.{subst, append-nil, append_assoc}
 use Rattle.std.specs.Prelude.{Option, Some, None, is_some, is_none, option_to_list, decimal}
 use Rattle.std.specs.Option.{option_and_then}
 use Rattle.std.proofs.lemmas.Bool.{and_parts}
+use Rattle.std.proofs.lemmas.Slice.Eq.{bytes_eq-Decides}
 use Rattle.cli_words.specs.declared.table.CommandWord.{CommandWord}
 use Rattle.cli_words.specs.declared.table.OptionWord.{OptionWord}
-use Rattle.cli_words.specs.declared.table.OptionWord.TheVariants.{Workers, Seed, Cycle, Reports, Dissent, Strict}
 use Rattle.cli_words.specs.declared.options.Options.{Options}
 use Rattle.cli_words.specs.Number.{number_of}
 use Rattle.cli_words.specs.Names.{is_name_of}
@@ -18,7 +18,7 @@ use Rattle.cli_words.specs.Reading.{read_by, read_long_form}
 use Rattle.cli_words.specs.Items.{Item, name, option, option_words, words_in, names_in, is_same, values_in, Gives}
 use Rattle.cli_words.proofs.Decimals.{number_of-is}
 use Rattle.cli_words.proofs.Ranging.{not_given, none-within, within-range}
-use Rattle.cli_words.proofs.Parting.{option-is, command-is, told-value, not_given-none}
+use Rattle.cli_words.proofs.Parting.{own-option, option-is, command-is, told-value, not_given-none}
 use Rattle.cli_words.proofs.Growing.{told_list, Grows}
 use Rattle.cli_words.proofs.Choosing.{with_option_or_name}
 
@@ -28,18 +28,9 @@ record Spelled (words : List (List ℕ)) (from to : CommandValue) : Type 0 where
   grows : Grows from items to
 
 same-option : (o p : OptionWord) → is_same o p ≡ true → o ≡ p
-same-option Workers Workers e = refl
-same-option Workers p e = absurd cc
-same-option Seed Seed e = refl
-same-option Seed p e = absurd cc
-same-option Cycle Cycle e = refl
-same-option Cycle p e = absurd cc
-same-option Reports Reports e = refl
-same-option Reports p e = absurd cc
-same-option Dissent Dissent e = refl
-same-option Dissent p e = absurd cc
-same-option Strict Strict e = refl
-same-option Strict p e = absurd cc
+same-option o p e =
+    let word : (option_row o).word ≡ (option_row p).word = (bytes_eq-Decides (option_row o).word (option_row p).word).0 e in
+    let same : ◌≡◌ {A = Option OptionWord} (Some o) (Some p) = sym (own-option o).0 ∙ ap option_word word ∙ (own-option p).0 in cc
 
 pub grows-itself : (c : CommandValue) → Grows c [] c
 grows-itself c = record {
