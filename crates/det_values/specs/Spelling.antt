@@ -58,6 +58,16 @@ pub record IsFlat (count : ℕ) (bytes : List ℕ) : Type 0 where
   pub fields : All IsDrawn (elements_in count bytes)
   pub few : count ≤ 65536
 
+-- some elements, this many, are spelled by these bytes
+abbrev pub SpellElements : List ℕ → ℕ → Type 0
+SpellElements bytes count = (es : List DrawnElement) × (bytes ≡ spelled_all es)
+    × (length es ≡ count) × All IsDrawn es
+
+-- the elements that these bytes spell, this many, were added at the end
+abbrev pub IsExtended : List ℕ → ℕ → List DrawnElement → List DrawnElement → Type 0
+IsExtended bytes count old new = (es : List DrawnElement) → bytes ≡ spelled_all es
+    → length es ≡ count → All IsDrawn es → new ≡ old ++ es
+
 -- the new bytes begin with the old ones
 pub record Grows (old new : List ℕ) : Type 0 where
   pub added : List ℕ

@@ -79,11 +79,7 @@ pub(crate) fn append_to_last<E: Drop>(
 {
     let count = blocks.len();
     let last = &mut blocks[count - 1];
-    match last.append(&mut more) {
-        Ok(()) => {
-            spares.keep_block(more);
-            Ok(())
-        }
-        Err(_) => Err(AllocError),
-    }
+    last.append(&mut more)?;
+    spares.keep_block(more);
+    Ok(())
 }

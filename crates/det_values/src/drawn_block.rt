@@ -2,7 +2,8 @@
 ghost use Rattle.std.specs.Prelude.{◌≡◌, ◌≤◌, ◌<◌, ◌+◌, List, ◌++◌, ◌∷◌, [], length, OnOk, OnErr};
 ghost use Rattle.std.specs.Prelude.{IsTrue, ◌↔◌};
 ghost use Rattle.std.specs.List.{All};
-ghost use Rattle.det_values.specs.Spelling.{an_element, spelled_drawn, spelled_all, IsDrawn};
+ghost use Rattle.det_values.specs.Spelling.{an_element, spelled_all, IsDrawn};
+ghost use Rattle.det_values.specs.Spelling.{IsExtended, SpellElements};
 ghost use Rattle.det_values.specs.declared.frames.DrawnElement.{DrawnElement};
 
 use crate::block_walk::BlockWalk;
@@ -84,13 +85,9 @@ impl DrawnBlock {
         ensures ok { OnOk result (self.new ≡ self.old ++ an_element bytes.now draws ∷ []) }
         ensures err { OnErr result (self.new ≡ self.old) }
     {
-        match put_drawn(&mut self.bytes, bytes, draws) {
-            Ok(()) => {
-                self.count += 1;
-                Ok(())
-            }
-            Err(refused) => Err(refused),
-        }
+        put_drawn(&mut self.bytes, bytes, draws)?;
+        self.count += 1;
+        Ok(())
     }
 
     /// Removes all elements, and keeps the memory that they took.
@@ -105,26 +102,19 @@ impl DrawnBlock {
     /// nothing.
     pub fn extend_spelled(&mut self, spelled: &[u8], count: u32) -> Result<(), AllocError>
         requires room { length self.old + count ≤ 65536 }
-        requires spelled { (es : List DrawnElement) × (spelled.now ≡ spelled_all es)
-            × (length es ≡ count) × All IsDrawn es }
-        ensures ok { OnOk result ((es : List DrawnElement) → spelled.now ≡ spelled_all es
-            → length es ≡ count → All IsDrawn es → self.new ≡ self.old ++ es) }
+        requires spelled { SpellElements spelled.now count }
+        ensures ok { OnOk result (IsExtended spelled.now count self.old self.new) }
         ensures err { OnErr result (self.new ≡ self.old) }
     {
-        match self.bytes.extend_from_slice(spelled) {
-            Ok(()) => {
-                self.count += count;
-                Ok(())
-            }
-            Err(_) => Err(AllocError),
-        }
+        self.bytes.extend_from_slice(spelled)?;
+        self.count += count;
+        Ok(())
     }
 
     /// A block of `count` elements, given as bytes of a record. The bytes are moved, not copied.
     pub fn from_spelled(bytes: Vec<u8>, count: u32) -> DrawnBlock
         requires few { count ≤ 65536 }
-        requires spelled { (es : List DrawnElement) × (bytes.items ≡ spelled_all es)
-            × (length es ≡ count) × All IsDrawn es }
+        requires spelled { SpellElements bytes.items count }
         ensures { (es : List DrawnElement) → bytes.items ≡ spelled_all es → length es ≡ count
             → All IsDrawn es → result ≡ es }
     {

@@ -1,12 +1,10 @@
 //! The steps of `DrawnElements` on its plain list of blocks: adding, clearing and comparing.
-ghost use Rattle.std.specs.Prelude.{◌≡◌, ◌≤◌, ◌<◌, ◌+◌, List, ◌++◌, ◌∷◌, [], length, OnOk, OnErr};
-ghost use Rattle.std.specs.List.{All};
+ghost use Rattle.std.specs.Prelude.{◌≡◌, ◌≤◌, ◌<◌, ◌+◌, ◌++◌, ◌∷◌, [], length, OnOk, OnErr};
 ghost use Rattle.std.specs.Cmp.Lexicographic.{pointwise};
 ghost use Rattle.det_values.specs.Blocks.{joined};
-ghost use Rattle.det_values.specs.Spelling.{an_element, spelled_all, IsDrawn};
+ghost use Rattle.det_values.specs.Spelling.{an_element, IsExtended, SpellElements};
 ghost use Rattle.det_values.specs.Equal.{drawn_eq};
 ghost use Rattle.det_values.specs.Frames.{all_without_draws};
-ghost use Rattle.det_values.specs.declared.frames.DrawnElement.{DrawnElement};
 
 use crate::block_walk::BlockWalk;
 use crate::drawn_block::DrawnBlock;
@@ -18,10 +16,8 @@ pub(crate) fn add_block(blocks: &mut Vec<DrawnBlock>, block: DrawnBlock) -> Resu
     ensures ok { OnOk result (blocks.new.items ≡ blocks.old.items ++ block ∷ []) }
     ensures err { OnErr result (blocks.new.items ≡ blocks.old.items) }
 {
-    match blocks.push(block) {
-        Ok(()) => Ok(()),
-        Err(_) => Err(AllocError),
-    }
+    blocks.push(block)?;
+    Ok(())
 }
 
 /// Adds an empty block if there is no block.
@@ -64,11 +60,9 @@ pub(crate) fn extend_drawn(
 ) -> Result<(), AllocError>
     requires some { 0 < length blocks.old.items }
     requires room { length (joined blocks.old.items) + count ≤ 65536 }
-    requires spelled { (es : List DrawnElement) × (spelled.now ≡ spelled_all es)
-        × (length es ≡ count) × All IsDrawn es }
-    ensures ok { OnOk result ((es : List DrawnElement) → spelled.now ≡ spelled_all es
-        → length es ≡ count → All IsDrawn es
-        → joined blocks.new.items ≡ joined blocks.old.items ++ es) }
+    requires spelled { SpellElements spelled.now count }
+    ensures ok { OnOk result (IsExtended spelled.now count (joined blocks.old.items)
+        (joined blocks.new.items)) }
     ensures err { OnErr result (joined blocks.new.items ≡ joined blocks.old.items) }
 {
     let last = blocks.len() - 1;

@@ -1,9 +1,7 @@
 //! The elements of a finished cycle, in the blocks that the workers wrote.
-ghost use Rattle.std.specs.Prelude.{◌≡◌, ◌≤◌, ◌<◌, ◌+◌, List, ◌++◌, ◌∷◌, [], length, OnOk, OnErr};
-ghost use Rattle.std.specs.List.{All};
+ghost use Rattle.std.specs.Prelude.{◌≡◌, ◌≤◌, ◌<◌, ◌+◌, ◌++◌, ◌∷◌, [], length, OnOk, OnErr};
 ghost use Rattle.det_values.specs.Blocks.{joined};
-ghost use Rattle.det_values.specs.Spelling.{an_element, spelled_all, IsDrawn};
-ghost use Rattle.det_values.specs.declared.frames.DrawnElement.{DrawnElement};
+ghost use Rattle.det_values.specs.Spelling.{an_element, IsExtended, SpellElements};
 
 use crate::drawn_block::DrawnBlock;
 use crate::drawn_blocks::{
@@ -120,10 +118,8 @@ impl DrawnElements {
     /// that fails changes nothing.
     pub fn extend_spelled(&mut self, spelled: &[u8], count: u32) -> Result<(), AllocError>
         requires room { length self.old + count ≤ 65536 }
-        requires spelled { (es : List DrawnElement) × (spelled.now ≡ spelled_all es)
-            × (length es ≡ count) × All IsDrawn es }
-        ensures ok { OnOk result ((es : List DrawnElement) → spelled.now ≡ spelled_all es
-            → length es ≡ count → All IsDrawn es → self.new ≡ self.old ++ es) }
+        requires spelled { SpellElements spelled.now count }
+        ensures ok { OnOk result (IsExtended spelled.now count self.old self.new) }
         ensures err { OnErr result (self.new ≡ self.old) }
     {
         ensure_drawn_block(&mut self.blocks, self.alloc)?;

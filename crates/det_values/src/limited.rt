@@ -57,10 +57,8 @@ impl<T, const MOST: usize> Limited<T, MOST> {
         ensures ok { OnOk result (self.new ≡ self.old ++ item ∷ []) }
         ensures err { OnErr result (self.new ≡ self.old) }
     {
-        match self.items.push(item) {
-            Ok(()) => Ok(()),
-            Err(_) => Err(AllocError),
-        }
+        self.items.push(item)?;
+        Ok(())
     }
 
     /// Moves another list's items to the end. A call that fails drops them and changes nothing.
@@ -71,10 +69,7 @@ impl<T, const MOST: usize> Limited<T, MOST> {
         ensures ok { OnOk result (self.new ≡ self.old ++ more) }
         ensures err { OnErr result (self.new ≡ self.old) }
     {
-        match self.items.append(&mut more.items) {
-            Ok(()) => Ok(()),
-            Err(_) => Err(AllocError),
-        }
+        self.items.append(&mut more.items)
     }
 
     /// Adds copies of the items at the end. A call that fails changes nothing.
@@ -85,10 +80,7 @@ impl<T, const MOST: usize> Limited<T, MOST> {
         ensures ok { OnOk result (self.new ≡ self.old ++ items.now) }
         ensures err { OnErr result (self.new ≡ self.old) }
     {
-        match self.items.extend_from_slice(items) {
-            Ok(()) => Ok(()),
-            Err(_) => Err(AllocError),
-        }
+        self.items.extend_from_slice(items)
     }
 
     /// Removes all items, and keeps the memory that they took.
@@ -147,10 +139,8 @@ impl<T: Copy + Drop, const MOST: usize> Limited<T, MOST> {
         ensures { IfOk result (λ copy. copy ≡ self.now) }
     {
         let mut copy = Limited::new(alloc);
-        match copy.extend_from_slice(self.as_slice()) {
-            Ok(()) => Ok(copy),
-            Err(refused) => Err(refused),
-        }
+        copy.extend_from_slice(self.as_slice())?;
+        Ok(copy)
     }
 }
 

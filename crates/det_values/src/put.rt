@@ -58,9 +58,9 @@ pub fn put_drawn(out: &mut Vec<u8>, bytes: &[u8], draws: u32) -> Result<(), Allo
     let len = out.len();
     match put_element_parts(out, bytes, draws) {
         Ok(()) => Ok(()),
-        Err(_) => {
+        Err(refused) => {
             out.truncate(len);
-            Err(AllocError)
+            Err(refused)
         }
     }
 }

@@ -16,7 +16,7 @@ pub fn buffer_room(alloc: Global) -> Result<Vec<u8>, AllocError>
     ensures none { IfOk result (λ held. held.items ≡ []) }
     ensures room { IfOk result (λ held. 65536 ≤ vec_capacity held) }
 {
-    Ok(Vec::with_capacity(alloc, BUFFER_ROOM)?)
+    Vec::with_capacity(alloc, BUFFER_ROOM)
 }
 
 /// Adds a piece after the held bytes.
