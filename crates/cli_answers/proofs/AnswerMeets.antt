@@ -1,5 +1,5 @@
 -- How a run meets an outcome, by its answer, and what follows from that.
-use Rattle.std.proofs.Common.{◌≡◌, ℕ, List, Some, refl, sym, ap, inl, inr}
+use Rattle.std.proofs.Common.{◌≡◌, ℕ, List, Some, refl, sym, ap, subst, inl, inr}
 use Rattle.std.specs.Prelude.{◌⊎◌, Result, Ok, Err, OnOk, OnErr}
 use Rattle.det_io.specs.declared.failure.Failure.{Failure}
 use Rattle.det_io.specs.declared.failure.Failure.TheVariants as failures
@@ -10,7 +10,7 @@ use Rattle.det_io.proofs.Growth.{grew-none, same-none, part-none, part-whole}
 use Rattle.cli_answers.specs.declared.answer.Answer.{Answer}
 use Rattle.cli_answers.specs.declared.answer.Answer.TheVariants.{ReadFault, WriteFault, OutOfMemory}
 use Rattle.cli_answers.specs.Answers.{failed}
-use Rattle.cli_answers.specs.Outcome.{Outcome, Meets, HasRisen, WritesLine, refusal}
+use Rattle.cli_answers.specs.Outcome.{Outcome, Meets, HasRisen, WritesLine, EndsBy, refusal}
 
 -- a sink that took nothing
 abbrev pub unwritten : (List ℕ → Type 0) → ℕ → ℕ → SinkRun
@@ -135,3 +135,10 @@ pub writes-line : {A E : Type 0} (line : List ℕ) (out : SinkRun) (written : Re
     → OnOk written (Grew out.before out.after line) → OnErr written (HasRisen out) → WritesLine line out
 writes-line line out (Ok done) part whole cause = record { part = part; whole = λ calm. whole }
 writes-line line out (Err why) part whole cause = record { part = part; whole = λ calm. absurd (calm cause) }
+
+-- the end of a program that wrote the line of its answer
+pub ends-by : {A S : Type 0} {status_of : A → S} {line_of : A → List ℕ} {Ran : A → Type 0} {err : SinkRun} {status : S} {line : List ℕ}
+    (answer : A) → status ≡ status_of answer → Ran answer → line ≡ line_of answer → WritesLine line err
+    → EndsBy status_of line_of Ran err status
+ends-by {err = err} answer is ran same written =
+    record { answer = answer; is = is; runs = ran; line = subst (λ (line : List ℕ). WritesLine line err) same written }

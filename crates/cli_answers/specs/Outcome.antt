@@ -64,3 +64,12 @@ Meets = MeetsBy failed
 pub record WritesLine (line : List ℕ) (out : SinkRun) : Type 0 where
   pub part : GrewByPrefix out.before out.after line
   pub whole : ¬ HasRisen out → Grew out.before out.after line
+
+-- The end of a program: the answer of its run, of which `Ran` holds, the exit status of the answer,
+-- and one line for the user.
+pub record EndsBy {A S : Type 0} (status_of : A → S) (line_of : A → List ℕ) (Ran : A → Type 0)
+    (err : SinkRun) (status : S) : Type 0 where
+  pub answer : A
+  pub is : status ≡ status_of answer
+  pub runs : Ran answer
+  pub line : WritesLine (line_of answer) err

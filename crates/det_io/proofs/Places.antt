@@ -5,8 +5,8 @@ use Rattle.std.specs.Prelude.{Bool, true, false, Some, IfSome, min, unwrap_or}
 use Rattle.std.specs.List.{slice_get}
 use Rattle.std.specs.Option.{option_map}
 use Rattle.std.specs.Str.{bytes_eq}
-use Rattle.std.proofs.lemmas.List.{take-append-drop, drop-drop, map-set, map-append, length-map, length-set, get_or-map, length-drop}
-use Rattle.std.proofs.lemmas.Option.{slice_get-get_or, slice_get-map, same_Some}
+use Rattle.std.proofs.lemmas.List.{take-append-drop, drop-drop, map-append, length-set, get_or-map, length-drop}
+use Rattle.std.proofs.lemmas.Option.{same_Some}
 use Rattle.std.proofs.lemmas.List.Quantifiers.{position-Some}
 use Rattle.std.proofs.lemmas.Slice.Eq.{bytes_eq-Decides}
 use Rattle.det_io.specs.Shelf.{Reads, Opens, Asks}
@@ -14,36 +14,7 @@ use Rattle.det_io.specs.MemShelf.{state_of, rest_of, names_of, texts_of, index_o
 use Rattle.det_io.specs.TextShelf.{one_slot}
 use Rattle.det_io.specs.declared.mem_shelf.MemFile.{MemFile}
 use Rattle.det_io.specs.declared.mem_shelf.place.FilePlace.{FilePlace}
-
-slice_get-set-same : {X : Type 0} (xs : List X) (i : ℕ) (v w : X) → slice_get xs i ≡ Some w → slice_get (set xs i v) i ≡ Some v
-slice_get-set-same [] i v w h = cc
-slice_get-set-same (x ∷ xs) zero v w h = refl
-slice_get-set-same (x ∷ xs) (suc i) v w h = slice_get-set-same xs i v w h
-
-slice_get-set-other : {X : Type 0} (xs : List X) (i k : ℕ) (v : X) → k ≢ i → slice_get (set xs i v) k ≡ slice_get xs k
-slice_get-set-other [] i k v ne = refl
-slice_get-set-other (x ∷ xs) zero zero v ne = absurd (ne refl)
-slice_get-set-other (x ∷ xs) zero (suc k) v ne = refl
-slice_get-set-other (x ∷ xs) (suc i) zero v ne = refl
-slice_get-set-other (x ∷ xs) (suc i) (suc k) v ne = slice_get-set-other xs i k v (λ e. ne (ap suc e))
-
-slice_get-end : {X : Type 0} (xs : List X) (x : X) → slice_get (xs ++ x ∷ []) (length xs) ≡ Some x
-slice_get-end [] x = refl
-slice_get-end (y ∷ ys) x = slice_get-end ys x
-
-slice_get-before : {X : Type 0} (xs : List X) (x : X) (k : ℕ) → k ≢ length xs → slice_get (xs ++ x ∷ []) k ≡ slice_get xs k
-slice_get-before [] x zero ne = absurd (ne refl)
-slice_get-before [] x (suc k) ne = refl
-slice_get-before (y ∷ ys) x zero ne = refl
-slice_get-before (y ∷ ys) x (suc k) ne = slice_get-before ys x k (λ e. ne (ap suc e))
-
-slice_get-map-at : {X Y : Type 0} (f : X → Y) (xs : List X) (i : ℕ) (x : X) → i < length xs → x ≡ get_or xs i x
-    → slice_get (map f xs) i ≡ Some (f x)
-slice_get-map-at f xs i x h e = slice_get-map f xs i ∙ ap (option_map f) (slice_get-get_or xs i x h ∙ ap Some (sym e))
-
-length-none : (xs : List ℕ) → length xs ≡ 0 → xs ≡ []
-length-none [] h = refl
-length-none (x ∷ xs) h = absurd (omega arith)
+use Rattle.det_io.proofs.Items.{length-none, seen-at, put-at, put-beside, more-at, more-beside}
 
 -- a slot over one text gives the front of its rest
 pub one_slot-reads : (bytes front : List ℕ) (at n slot : ℕ) → slot < 1 → front ≡ take n (drop at bytes)
@@ -64,7 +35,7 @@ one_slot-reads bytes front at n (suc slot) h e = absurd (omega arith)
 -- a slot at a place has the rest of that place
 pub places-rest : (files : List MemFile) (places : List FilePlace) (slot : ℕ) (p : FilePlace)
     → slot < length places → p ≡ get_or places slot p → rest_of files p ≡ unwrap_or (slice_get (map (rest_of files) places) slot) []
-places-rest files places slot p h e = rw (slice_get-map-at (rest_of files) places slot p h e) refl
+places-rest files places slot p h e = rw (seen-at (rest_of files) places slot p h e) refl
 
 -- a slot whose place goes on by n bytes gives them
 pub places-read : (files : List MemFile) (places : List FilePlace) (told : Bool) (asked : List ℕ) (faults after slot n : ℕ) (p : FilePlace)
@@ -75,16 +46,16 @@ pub places-read : (files : List MemFile) (places : List FilePlace) (told : Bool)
 places-read files places told asked faults after slot n p front h e f =
     let q : FilePlace = record { file = p.file; at = p.at + n } in
     let found : slice_get (map (rest_of files) places) slot ≡ Some (front ++ drop n (rest_of files p)) =
-    slice_get-map-at (rest_of files) places slot p h e ∙ ap Some (rw f (sym (take-append-drop n (rest_of files p)))) in
+    seen-at (rest_of files) places slot p h e ∙ ap Some (rw f (sym (take-append-drop n (rest_of files p)))) in
     let next : rest_of files q ≡ drop n (rest_of files p) = sym (drop-drop n p.at _) in
     let moved : slice_get (map (rest_of files) (set places slot q)) slot ≡ Some (drop n (rest_of files p)) =
-    rw map-set (slice_get-set-same (map (rest_of files) places) slot (rest_of files q) _ found ∙ ap Some next) in
+    put-at (rest_of files) places slot p q h e ∙ ap Some next in
     record {
       slots = length-set places slot q;
       holds = refl;
       asked = refl;
       left = found ∙ sym (ap (option_map (λ rest. front ++ rest)) moved);
-      others = λ k ne. rw map-set (slice_get-set-other (map (rest_of files) places) slot k (rest_of files q) ne);
+      others = λ k ne. put-beside (rest_of files) places slot k q ne;
     }
 
 -- a read that moves nothing into a nonempty buffer is at the end
@@ -96,10 +67,7 @@ places-end files places slot n most room p h e c m z r =
     let q : FilePlace = record { file = p.file; at = p.at + n } in
     let none : length (rest_of files p) ≡ 0 = omega arith in
     let next : rest_of files q ≡ drop n (rest_of files p) = sym (drop-drop n p.at _) in
-    let moved : slice_get (map (rest_of files) (set places slot q)) slot ≡ Some (rest_of files q) =
-    rw map-set (slice_get-set-same (map (rest_of files) places) slot (rest_of files q) _
-    (slice_get-map-at (rest_of files) places slot p h e)) in
-    rw (moved, next) (length-none _ (simp length-drop (omega (arith, simp length-drop at none))))
+    rw (put-at (rest_of files) places slot p q h e, next) (length-none _ (simp length-drop (omega (arith, simp length-drop at none))))
 
 -- the file found has the name
 named : (files : List MemFile) (name : List ℕ) (file : ℕ) → index_of files name ≡ Some file
@@ -138,14 +106,11 @@ opened-found : (files : List MemFile) (places : List FilePlace) (told : Bool) (a
     → Opens (state_of files places told asked faults) (state_of files (places ++ p ∷ []) told later after) name slot
 opened-found files places told asked later faults after slot p name e s z =
     let same : rest_of files p ≡ get_or (texts_of files) p.file [] = rw z refl in
-    let grown : map (rest_of files) (places ++ p ∷ []) ≡ map (rest_of files) places ++ rest_of files p ∷ [] =
-    map-append (rest_of files) places (p ∷ []) in
-    let count : length (map (rest_of files) places) ≡ length places = length-map places (rest_of files) in
     record {
       number = s;
       slots = length-append places (p ∷ []);
-      left = rw e (rw (grown, s, ← count) (slice_get-end (map (rest_of files) places) (rest_of files p) ∙ ap Some same));
-      others = λ k ne. rw grown (slice_get-before (map (rest_of files) places) (rest_of files p) k (λ w. ne (w ∙ count ∙ sym s)));
+      left = rw (e, s) (more-at (rest_of files) places p ∙ ap Some same);
+      others = λ k ne. more-beside (rest_of files) places p k (λ w. ne (w ∙ sym s));
     }
 
 -- a new place at the beginning of the file found opens it

@@ -2,7 +2,7 @@
 use Rattle.std.specs.Prelude.{◌≡◌, ◌≤◌, ℕ, List, length, Option, None}
 use Rattle.det_io.specs.Traffic.{SinkRun}
 use Rattle.lane.specs.child_processes.Spawners.{SpawnerState}
-use Rattle.cli_answers.specs.Outcome.{MeetsBy, WritesLine}
+use Rattle.cli_answers.specs.Outcome.{MeetsBy, EndsBy}
 use Rattle.lane.specs.declared.lane_answer.LaneAnswer.{LaneAnswer}
 use Rattle.lane.specs.declared.lane_answer.LaneAnswer.TheVariants.{BadWords}
 use Rattle.lane.specs.declared.lane_status.LaneStatus.{LaneStatus}
@@ -28,9 +28,7 @@ pub record Runs (command : Option CommandValue) (first last : SpawnerState)
   pub finished : AllFinished last
 
 -- The program: a run of the arguments' command, its status, and one line for the user.
-pub record IsPromised (words : List (List ℕ)) (first last : SpawnerState) (out err : SinkRun)
-    (status : LaneStatus) : Type 0 where
-  pub answer : LaneAnswer
-  pub is : status ≡ status_of answer
-  pub runs : Runs (command_of words) first last out answer
-  pub line : WritesLine (line_of answer) err
+abbrev pub IsPromised : (words : List (List ℕ)) → (first last : SpawnerState)
+    → (out err : SinkRun) → LaneStatus → Type 0
+IsPromised words first last out =
+    EndsBy status_of line_of (Runs (command_of words) first last out)

@@ -3,7 +3,7 @@ use Rattle.std.specs.Prelude.{◌≡◌, ℕ, List, Option, None}
 use Rattle.det_io.specs.Count.{Rose}
 use Rattle.det_io.specs.Shelf.{ShelfState, AsksPrefix}
 use Rattle.det_io.specs.Traffic.{SinkRun}
-use Rattle.cli_answers.specs.Outcome.{MeetsBy, WritesLine, KnowsBytes, known_bytes}
+use Rattle.cli_answers.specs.Outcome.{MeetsBy, EndsBy, KnowsBytes, known_bytes}
 use Rattle.cli_answers.specs.Slots.{KeepsSlots}
 use Rattle.cli_answers.specs.declared.status.Status.{Status}
 use Rattle.twin_cli.specs.declared.twin_answer.TwinAnswer.{TwinAnswer}
@@ -30,9 +30,7 @@ pub record Runs (command : Option CommandValue) (first last : ShelfState)
   pub earlier : KeepsSlots first last
 
 -- The program: a run of the arguments' command, its status, and one line for the user.
-pub record IsPromised (words : List (List ℕ)) (first last : ShelfState) (out err : SinkRun)
-    (status : Status) : Type 0 where
-  pub answer : TwinAnswer
-  pub is : status ≡ status_of answer
-  pub runs : Runs (command_of words) first last out answer
-  pub line : WritesLine (line_of answer) err
+abbrev pub IsPromised : (words : List (List ℕ)) → (first last : ShelfState)
+    → (out err : SinkRun) → Status → Type 0
+IsPromised words first last out =
+    EndsBy status_of line_of (Runs (command_of words) first last out)

@@ -62,3 +62,10 @@ pub many-begun : {S G E L P : Type 0} {m : Meaning S G E L P} {profile : Profile
     → length copies.twins.items ≡ count
 many-begun {S} {G} {E} {L} {P} count copies all =
     sym (length-map copies.twins.items (λ (x : Twin S G E L P). x.copy)) ∙ ap length all.numbers ∙ length-range_with_len 0 count
+
+-- copies with the same numbers, and one more of the same number
+pub same-numbers : {S G E L P : Type 0} (new old : List (Twin S G E L P)) (x y : Twin S G E L P) → numbers_of new ≡ numbers_of old
+    → x.copy ≡ y.copy → numbers_of (new ++ x ∷ []) ≡ numbers_of (old ++ y ∷ [])
+same-numbers {S} {G} {E} {L} {P} new old x y same copy =
+    map-append (λ (t : Twin S G E L P). t.copy) new (x ∷ []) ∙ ap (λ l. l ++ x.copy ∷ []) same
+    ∙ ap (λ k. numbers_of old ++ k ∷ []) copy ∙ sym (map-append (λ (t : Twin S G E L P). t.copy) old (y ∷ []))

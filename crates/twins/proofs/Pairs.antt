@@ -45,6 +45,16 @@ module _ {X Y : Type 0} where
         rw (first, get_or-append_seam ys y [] y) at last,
       )
 
+  -- the last of both, and those before them
+  pub pair_split : (R : X → Y → Type 0) (all xs : List X) (ys : List Y) (x : X) (y : Y) → all ≡ xs ++ x ∷ []
+      → EachPair R all (ys ++ y ∷ []) → EachPair R xs ys × R x y
+  pair_split R all xs ys x y is p = pair_less R xs ys x y (subst (λ (l : List X). EachPair R l (ys ++ y ∷ [])) is p)
+
+  -- and back again
+  pub pair_rejoin : (R : X → Y → Type 0) (all xs : List X) (ys same : List Y) (x : X) (y : Y) → all ≡ xs ++ x ∷ [] → same ≡ ys
+      → EachPair R xs ys → R x y → EachPair R all (same ++ y ∷ [])
+  pair_rejoin R all xs ys same x y is e p one = rw (is, e) (pair_more R xs ys x y p one)
+
   pub pair_join : (R : X → Y → Type 0) (xs us : List X) (ys bs : List Y) → EachPair R xs ys → EachPair R us bs
       → EachPair R (xs ++ us) (ys ++ bs)
   pair_join R xs us ys bs p q = record {

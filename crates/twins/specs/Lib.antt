@@ -1,4 +1,5 @@
 pub mod ClosedQueues
+pub mod Turns
 pub mod TwinCopies
 pub mod Intakes
 pub mod Laws

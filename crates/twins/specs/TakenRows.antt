@@ -1,5 +1,5 @@
 -- What is taken of copies, and what it says of them.
-use Rattle.std.specs.Prelude.{◌≡◌, ℕ, ◌+◌, ◌<◌, List, [], ◌∷◌, ◌++◌, length, map}
+use Rattle.std.specs.Prelude.{◌≡◌, ℕ, ◌+◌, ◌<◌, ◌≤◌, List, [], ◌∷◌, ◌++◌, length, map}
 use Rattle.std.specs.Prelude.{Option, Some, None}
 use Rattle.std.specs.List.{All}
 use Rattle.frame_queue.specs.declared.row.Row.{Row}
@@ -47,3 +47,16 @@ pub record Parted (queues : List FrameQueue) (taker : Taker) (verdict : Verdict)
 abbrev pub Judged : Option Verdict → List FrameQueue → Taker → Type 0
 Judged None queues taker = Agreed queues taker
 Judged (Some verdict) queues taker = Parted queues taker verdict
+
+-- at most `more` further rows may be taken of each of these 1 to 8 copies
+pub record MayTake (queues : List FrameQueue) (taker : Taker) (more : ℕ) : Type 0 where
+  pub some : 0 < length queues
+  pub few : length queues ≤ 8
+  pub room : taker.rows + more < 4294967295
+  pub agreed : Agreed queues taker
+
+-- at most `more` further rows were taken of each copy, and this was found of them
+pub record Takes (queues : List FrameQueue) (before after : Taker) (more : ℕ)
+    (found : Option Verdict) : Type 0 where
+  pub judged : Judged found queues after
+  pub within : after.rows ≤ before.rows + more

@@ -1,6 +1,6 @@
 -- A copy that makes the frames of the run and sends its rows.
 use Rattle.std.specs.Prelude.{◌≡◌, ℕ, ◌+◌, ◌-◌, ◌<◌, ◌≤◌, List, length, take, Some}
-use Rattle.std.specs.Prelude.{true, false}
+use Rattle.std.specs.Prelude.{true, false, Result, IfOk, OnOk}
 use Rattle.std.specs.List.{All, slice_get}
 use Rattle.det_values.specs.Values.{ProfileValue}
 use Rattle.det_values.specs.declared.frames.CycleInput.{CycleInput}
@@ -34,6 +34,13 @@ module _ {S G E L P : Type 0} (m : Meaning S G E L P) (profile : ProfileValue)
   pub record HasMade (number : ℕ) (engine : EngineState S G E) : Type 0 where
     pub stands : StandsFor m profile engine (take (number - 3) inputs)
     pub going : number < length inputs + 4 → engine.stopped ≡ false
+
+  -- the copy made the frame of the number that it had reached
+  pub record MakesFrame {X : Type 0} (before after : Twin S G E L P) (result : Result Frame X)
+      : Type 0 where
+    pub frame : IfOk result (IsFrame before.number)
+    pub made : OnOk result (HasMade (before.number + 1) after.engine)
+    pub keeps : after ≡ record before { engine = after.engine }
 
   module _ (altered : ℕ → ℕ → Frame → Frame) where
     -- The copy sends to this queue, and sent the first of its rows. Unless it ran out of memory,

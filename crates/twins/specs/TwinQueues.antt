@@ -1,5 +1,5 @@
 -- Copies that send, each to its queue.
-use Rattle.std.specs.Prelude.{List, ℕ, map}
+use Rattle.std.specs.Prelude.{◌≡◌, List, ℕ, map}
 use Rattle.det_values.specs.Values.{ProfileValue}
 use Rattle.det_values.specs.declared.frames.CycleInput.{CycleInput}
 use Rattle.det_values.specs.declared.frames.Frame.{Frame}
@@ -19,3 +19,10 @@ module _ {S G E L P : Type 0} where
   -- their numbers
   abbrev pub numbers_of : List (Twin S G E L P) → List ℕ
   numbers_of twins = map (λ (twin : Twin S G E L P). twin.copy) twins
+
+  -- copies after some of their rows were sent: the same copies, each at its queue
+  pub record HaveSent (m : Meaning S G E L P) (profile : ProfileValue) (inputs : List CycleInput)
+      (altered : ℕ → ℕ → Frame → Frame) (queues : List FrameQueue)
+      (before after : List (Twin S G E L P)) : Type 0 where
+    pub twins : AreTwins m profile inputs altered queues after
+    pub numbers : numbers_of after ≡ numbers_of before

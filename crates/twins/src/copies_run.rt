@@ -1,8 +1,5 @@
 //! `run_twins`: the entry of the crate.
 ghost use Rattle.std.specs.Prelude.{◌≡◌, ◌≤◌, length, IfOk, None};
-ghost use Rattle.std.specs.Option.{unwrap_or};
-ghost use Rattle.copies.specs.declared.verdict.Verdict.TheVariants.{Agree};
-ghost use Rattle.twins.specs.TwinCopies.{AreCopies};
 ghost use Rattle.twins.specs.TwinFrames.{AreKnown};
 ghost use Rattle.twins.specs.TwinVerdict.{twin_verdict};
 
@@ -35,11 +32,7 @@ pub fn run_twins<J, T, R>(
     copies: u32,
 ) -> Result<Verdict, AllocError>
 where
-    J: Job + Send + Sync,
-    J::Globals: Send,
-    J::Element: Send + Sync,
-    J::Plan: Send + Sync,
-    J::Part: Send + Sync,
+    J: Job<Globals: Send, Element: Send + Sync, Plan: Send + Sync, Part: Send + Sync> + Send + Sync,
     T: Tamper,
     R: Threads + Wait + Sync,
     requires some { 2 ≤ copies }
@@ -51,37 +44,6 @@ where
         run.now.inputs (T.altered run.now.tamper) copies) }
 {
     let begun = TwinCopies::<J>::new(alloc, run, copies)?;
-    let found = run_copies(rt, alloc, run, begun, copies)?;
-    Ok(found.unwrap_or(Verdict::Agree {
-        cycles: run.inputs.len() as u32,
-    }))
-}
-
-/// Runs copies that have sent nothing yet, and returns the verdict if a row differs.
-fn run_copies<J, T, R>(
-    rt: &R,
-    alloc: Global,
-    run: &TwinRun<T>,
-    begun: TwinCopies<J>,
-    copies: u32,
-) -> Result<Option<Verdict>, AllocError>
-where
-    J: Job + Send + Sync,
-    J::Globals: Send,
-    J::Element: Send + Sync,
-    J::Plan: Send + Sync,
-    J::Part: Send + Sync,
-    T: Tamper,
-    R: Threads + Wait + Sync,
-    requires some { 2 ≤ copies }
-    requires few { copies ≤ 8 }
-    requires known { AreKnown run.now.profile run.now.inputs }
-    requires begun { AreCopies J.meaning run.now.profile run.now.inputs
-        (T.altered run.now.tamper) copies begun }
-    ensures { IfOk result (λ found. unwrap_or found (Agree (length run.now.inputs))
-        ≡ twin_verdict J.meaning run.now.profile run.now.inputs
-        (T.altered run.now.tamper) copies) }
-{
     let TwinCopies {
         queues,
         twins,
@@ -91,5 +53,7 @@ where
     let (sides, found) = exchange_all(rt, alloc, run, queues.as_slice(), sides)?;
     let (twins, intakes) = sides.parts()?;
     close_all(queues, twins, intakes);
-    Ok(found)
+    Ok(found.unwrap_or(Verdict::Agree {
+        cycles: run.inputs.len() as u32,
+    }))
 }

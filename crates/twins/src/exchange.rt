@@ -1,11 +1,12 @@
 //! One turn of sending and taking, and the loop over turns.
-ghost use Rattle.std.specs.Prelude.{◌≡◌, ◌+◌, ◌<◌, ◌≤◌, ◌∷◌, ◌++◌, [], length};
+ghost use Rattle.std.specs.Prelude.{◌≡◌, ◌+◌, ◌∷◌, ◌++◌, [], length};
 ghost use Rattle.std.specs.Prelude.{IfNone, IfOk};
 ghost use Rattle.std.specs.Thread.{IsSend, IsSync};
+ghost use Rattle.twins.specs.Turns.{MayExchange};
 ghost use Rattle.twins.specs.TwinFrames.{AreKnown};
-ghost use Rattle.twins.specs.TwinQueues.{AreTwins, numbers_of};
+ghost use Rattle.twins.specs.TwinQueues.{AreTwins, HaveSent};
 ghost use Rattle.twins.specs.Sides.{twins_of};
-ghost use Rattle.twins.specs.TakenRows.{Agreed, Judged};
+ghost use Rattle.twins.specs.TakenRows.{Judged, MayTake, Takes};
 
 use crate::sides::Sides;
 use crate::taker::Taker;
@@ -44,12 +45,8 @@ fn take_from_copies<R: Wait>(
     mut taker: Taker,
     more: u32,
 ) -> (Taker, Option<Verdict>)
-    requires some { 0 < length queues.now }
-    requires few { length queues.now ≤ 8 }
-    requires room { taker.rows + more < 4294967295 }
-    requires agreed { Agreed queues.now taker }
-    ensures judged { Judged result.1 queues.now result.0 }
-    ensures within { result.0.rows ≤ taker.rows + more }
+    requires { MayTake queues.now taker more }
+    ensures { Takes queues.now taker result.0 more result.1 }
 {
     come_to(queues);
     let found = taker.take_rows(rt, queues, more);
@@ -71,25 +68,14 @@ pub(crate) fn exchange<J, T, R>(
     more: u32,
 ) -> (Sides<J>, Option<Verdict>)
 where
-    J: Job + Send + Sync,
-    J::Globals: Send,
-    J::Element: Send + Sync,
-    J::Plan: Send + Sync,
-    J::Part: Send + Sync,
+    J: Job<Globals: Send, Element: Send + Sync, Plan: Send + Sync, Part: Send + Sync> + Send + Sync,
     T: Tamper,
     R: Threads + Wait + Sync,
-    requires known { AreKnown run.now.profile run.now.inputs }
-    requires some { 0 < length queues.now }
-    requires few { length queues.now ≤ 8 }
-    requires room { sides.taker.rows + more < 4294967295 }
-    requires twins { AreTwins J.meaning run.now.profile run.now.inputs (T.altered run.now.tamper)
-        queues.now (twins_of sides) }
-    requires agreed { Agreed queues.now sides.taker }
-    ensures twins { AreTwins J.meaning run.now.profile run.now.inputs (T.altered run.now.tamper)
-        queues.now (twins_of result.0) }
-    ensures numbers { numbers_of (twins_of result.0) ≡ numbers_of (twins_of sides) }
-    ensures judged { Judged result.1 queues.now result.0.taker }
-    ensures within { result.0.taker.rows ≤ sides.taker.rows + more }
+    requires { MayExchange J.meaning run.now.profile run.now.inputs (T.altered run.now.tamper)
+        queues.now sides more }
+    ensures sends { HaveSent J.meaning run.now.profile run.now.inputs (T.altered run.now.tamper)
+        queues.now (twins_of sides) (twins_of result.0) }
+    ensures takes { Takes queues.now sides.taker result.0.taker more result.1 }
 {
     'queues: for queue in queues {
         queue.pace().reset();
@@ -108,19 +94,13 @@ where
             requires known { AreKnown run.now.profile run.now.inputs }
             requires twins { AreTwins J.meaning run.now.profile run.now.inputs
                 (T.altered run.now.tamper) queues.now (others.items ++ last ∷ []) }
-            ensures twins { AreTwins J.meaning run.entry.now.profile run.entry.now.inputs
-                (T.altered run.entry.now.tamper) queues.entry.now
+            ensures sends { HaveSent J.meaning run.entry.now.profile run.entry.now.inputs
+                (T.altered run.entry.now.tamper) queues.entry.now (others.items ++ last ∷ [])
                 (result.1.items ++ result.0 ∷ []) }
-            ensures numbers { numbers_of (result.1.items ++ result.0 ∷ [])
-                ≡ numbers_of (others.items ++ last ∷ []) }
         { send_all(rt, alloc, run, queues, last, others) },
         move || -> (Taker, Option<Verdict>)
-            requires some { 0 < length queues.now }
-            requires few { length queues.now ≤ 8 }
-            requires room { taker.rows + more < 4294967295 }
-            requires agreed { Agreed queues.now taker }
-            ensures judged { Judged result.1 queues.entry.now result.0 }
-            ensures within { result.0.rows ≤ taker.rows + more }
+            requires { MayTake queues.now taker more }
+            ensures { Takes queues.entry.now taker result.0 more result.1 }
         { take_from_copies(rt, queues, taker, more) },
     );
     let (last, others) = twins;
@@ -147,24 +127,14 @@ pub(crate) fn exchange_all<J, T, R>(
     sides: Sides<J>,
 ) -> Result<(Sides<J>, Option<Verdict>), AllocError>
 where
-    J: Job + Send + Sync,
-    J::Globals: Send,
-    J::Element: Send + Sync,
-    J::Plan: Send + Sync,
-    J::Part: Send + Sync,
+    J: Job<Globals: Send, Element: Send + Sync, Plan: Send + Sync, Part: Send + Sync> + Send + Sync,
     T: Tamper,
     R: Threads + Wait + Sync,
-    requires known { AreKnown run.now.profile run.now.inputs }
-    requires some { 0 < length queues.now }
-    requires few { length queues.now ≤ 8 }
     requires begins { sides.taker.rows ≡ 0 }
-    requires twins { AreTwins J.meaning run.now.profile run.now.inputs (T.altered run.now.tamper)
-        queues.now (twins_of sides) }
-    requires agreed { Agreed queues.now sides.taker }
-    ensures twins { IfOk result (λ all. AreTwins J.meaning run.now.profile run.now.inputs
-        (T.altered run.now.tamper) queues.now (twins_of all.0)) }
-    ensures numbers { IfOk result (λ all.
-        numbers_of (twins_of all.0) ≡ numbers_of (twins_of sides)) }
+    requires sides { MayExchange J.meaning run.now.profile run.now.inputs
+        (T.altered run.now.tamper) queues.now sides 0 }
+    ensures sends { IfOk result (λ all. HaveSent J.meaning run.now.profile run.now.inputs
+        (T.altered run.now.tamper) queues.now (twins_of sides) (twins_of all.0)) }
     ensures judged { IfOk result (λ all. Judged all.1 queues.now all.0.taker) }
     ensures rows { IfOk result (λ all.
         IfNone all.1 (all.0.taker.rows ≡ length run.now.inputs + 4)) }

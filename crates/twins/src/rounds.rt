@@ -5,7 +5,8 @@ ghost use Rattle.copies.specs.declared.verdict.Verdict.TheVariants.{Differ};
 ghost use Rattle.copies.specs.Verdict.{row_difference};
 ghost use Rattle.twins.specs.Pairs.{EachPair};
 ghost use Rattle.twins.specs.TwinVerdict.{as_read, row_verdict};
-ghost use Rattle.twins.specs.TakenRows.{AreIntakes, HaveTaken, TookOne, taken_by, Agreed, Judged};
+ghost use Rattle.twins.specs.TakenRows.{AreIntakes, HaveTaken, TookOne, taken_by, Judged};
+ghost use Rattle.twins.specs.TakenRows.{MayTake, Takes};
 
 use crate::taker::{Intake, Taker};
 use copies::{Verdict, first_frame_difference};
@@ -21,12 +22,8 @@ impl Taker {
         queues: &[FrameQueue],
         more: u32,
     ) -> Option<Verdict>
-        requires some { 0 < length queues.now }
-        requires few { length queues.now ≤ 8 }
-        requires room { self.old.rows + more < 4294967295 }
-        requires agreed { Agreed queues.now self.old }
-        ensures judged { Judged result queues.now self.new }
-        ensures within { self.new.rows ≤ self.old.rows + more }
+        requires { MayTake queues.now self.old more }
+        ensures { Takes queues.now self.old self.new more result }
     {
         'rounds: for _ in 0..more {
             if !wait_for_rows(rt, queues) {
@@ -41,10 +38,7 @@ impl Taker {
 
     /// Takes one more row of each copy.
     fn take_next<R: Wait>(&mut self, rt: &R, queues: &[FrameQueue]) -> Option<Verdict>
-        requires some { 0 < length queues.now }
-        requires few { length queues.now ≤ 8 }
-        requires room { self.old.rows < 4294967295 }
-        requires agreed { Agreed queues.now self.old }
+        requires { MayTake queues.now self.old 1 }
         ensures judged { Judged result queues.now self.new }
         ensures rows { self.new.rows ≡ self.old.rows + 1 }
     {

@@ -2,7 +2,7 @@
 ghost use Rattle.std.specs.Prelude.{◌≡◌, ◌+◌, ◌≤◌, ◌∷◌, ◌++◌, [], vec_len, vec_capacity};
 ghost use Rattle.std.specs.Thread.{IsSend, IsSync};
 ghost use Rattle.twins.specs.TwinFrames.{AreKnown, IsTwin};
-ghost use Rattle.twins.specs.TwinQueues.{AreTwins, numbers_of};
+ghost use Rattle.twins.specs.TwinQueues.{AreTwins, HaveSent};
 
 use crate::twin::Twin;
 use crate::{Tamper, TwinRun};
@@ -24,25 +24,6 @@ fn put_back<J: Job>(twins: &mut Vec<Twin<J>>, twin: Twin<J>)
     }
 }
 
-/// Lets one copy send rows to its queue. Returns the copy.
-fn send_one_copy<J: Job, T: Tamper, R: Wait>(
-    rt: &R,
-    alloc: Global,
-    run: &TwinRun<T>,
-    queue: &FrameQueue,
-    mut twin: Twin<J>,
-) -> Twin<J>
-    requires known { AreKnown run.now.profile run.now.inputs }
-    requires twin { IsTwin J.meaning run.now.profile run.now.inputs (T.altered run.now.tamper)
-        queue.now twin }
-    ensures twin { IsTwin J.meaning run.now.profile run.now.inputs (T.altered run.now.tamper)
-        queue.now result }
-    ensures copy { result.copy ≡ twin.copy }
-{
-    twin.send_rows(rt, alloc, run, queue);
-    twin
-}
-
 /// Lets all copies send rows, each on a thread of its own if there is one. It allocates nothing for
 /// that.
 ///
@@ -58,27 +39,21 @@ pub(crate) fn send_all<J, T, R>(
     mut others: Vec<Twin<J>>,
 ) -> (Twin<J>, Vec<Twin<J>>)
 where
-    J: Job + Send + Sync,
-    J::Globals: Send,
-    J::Element: Send + Sync,
-    J::Plan: Send + Sync,
-    J::Part: Send + Sync,
+    J: Job<Globals: Send, Element: Send + Sync, Plan: Send + Sync, Part: Send + Sync> + Send + Sync,
     T: Tamper,
     R: Threads + Wait + Sync,
     requires known { AreKnown run.now.profile run.now.inputs }
     requires twins { AreTwins J.meaning run.now.profile run.now.inputs (T.altered run.now.tamper)
         queues.now (others.items ++ last ∷ []) }
-    ensures twins { AreTwins J.meaning run.now.profile run.now.inputs (T.altered run.now.tamper)
-        queues.now (result.1.items ++ result.0 ∷ []) }
-    ensures numbers { numbers_of (result.1.items ++ result.0 ∷ [])
-        ≡ numbers_of (others.items ++ last ∷ []) }
+    ensures sends { HaveSent J.meaning run.now.profile run.now.inputs (T.altered run.now.tamper)
+        queues.now (others.items ++ last ∷ []) (result.1.items ++ result.0 ∷ []) }
     ensures room { vec_capacity others ≤ vec_capacity result.1 }
 {
     let Some((queue, front)) = queues.split_last() else {
         unreachable!()
     };
     let Some(next) = others.pop() else {
-        return (send_one_copy(rt, alloc, run, queue, last), others);
+        return (last.send_rows(rt, alloc, run, queue), others);
     };
     let (last, second) = join(
         rt,
@@ -90,7 +65,7 @@ where
             ensures twin { IsTwin J.meaning run.entry.now.profile run.entry.now.inputs
                 (T.altered run.entry.now.tamper) queue.entry.now result }
             ensures copy { result.copy ≡ last.copy }
-        { send_one_copy(rt, alloc, run, queue, last) },
+        { last.send_rows(rt, alloc, run, queue) },
         move || -> (Twin<J>, Vec<Twin<J>>)
             requires threads { IsSync R.row × IsSync T.row × IsSync J.row × IsSend J.row
                 × IsSend J.Globals.row × IsSend J.Element.row × IsSync J.Element.row
@@ -98,11 +73,9 @@ where
             requires known { AreKnown run.now.profile run.now.inputs }
             requires twins { AreTwins J.meaning run.now.profile run.now.inputs
                 (T.altered run.now.tamper) front.now (others.items ++ next ∷ []) }
-            ensures twins { AreTwins J.meaning run.entry.now.profile run.entry.now.inputs
-                (T.altered run.entry.now.tamper) front.entry.now
+            ensures sends { HaveSent J.meaning run.entry.now.profile run.entry.now.inputs
+                (T.altered run.entry.now.tamper) front.entry.now (others.items ++ next ∷ [])
                 (result.1.items ++ result.0 ∷ []) }
-            ensures numbers { numbers_of (result.1.items ++ result.0 ∷ [])
-                ≡ numbers_of (others.items ++ next ∷ []) }
             ensures room { vec_capacity others ≤ vec_capacity result.1 }
         { send_all(rt, alloc, run, front, next, others) },
     );

@@ -1,6 +1,6 @@
 //! How a copy makes the frames of the run, one after another. `send_rows` sends them.
-ghost use Rattle.std.specs.Prelude.{◌≡◌, ◌≤◌, ◌<◌, ◌+◌, length, IfOk, OnOk};
-ghost use Rattle.twins.specs.TwinFrames.{AreKnown, IsFrame, HasMade};
+ghost use Rattle.std.specs.Prelude.{◌≤◌, ◌<◌, ◌+◌, length, IfOk};
+ghost use Rattle.twins.specs.TwinFrames.{AreKnown, IsFrame, HasMade, MakesFrame};
 
 use crate::TwinRun;
 use crate::twin::Twin;
@@ -22,11 +22,7 @@ impl<J: Job> Twin<J> {
         requires more { self.old.number < length run.now.inputs + 4 }
         requires made { HasMade J.meaning run.now.profile run.now.inputs self.old.number
             self.old.engine }
-        ensures frame { IfOk result (λ frame. IsFrame J.meaning run.now.profile run.now.inputs
-            self.old.number frame) }
-        ensures made { OnOk result (HasMade J.meaning run.now.profile run.now.inputs
-            (self.old.number + 1) self.new.engine) }
-        ensures keeps { self.new ≡ record self.old { engine = self.new.engine } }
+        ensures { MakesFrame J.meaning run.now.profile run.now.inputs self.old self.new result }
     {
         if self.number < 3 {
             return self.opening_frame(alloc, run);
@@ -63,11 +59,7 @@ impl<J: Job> Twin<J> {
         requires few { self.old.number < 1000003 }
         requires made { HasMade J.meaning run.now.profile run.now.inputs self.old.number
             self.old.engine }
-        ensures frame { IfOk result (λ frame. IsFrame J.meaning run.now.profile run.now.inputs
-            self.old.number frame) }
-        ensures made { OnOk result (HasMade J.meaning run.now.profile run.now.inputs
-            (self.old.number + 1) self.new.engine) }
-        ensures keeps { self.new ≡ record self.old { engine = self.new.engine } }
+        ensures { MakesFrame J.meaning run.now.profile run.now.inputs self.old self.new result }
     {
         let input = run.inputs.item(self.number as usize - 3).try_clone(alloc)?;
         let frame = self

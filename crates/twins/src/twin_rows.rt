@@ -12,20 +12,20 @@ use std::sync::Wait;
 
 impl<J: Job> Twin<J> {
     /// Makes and sends rows while the queue has a place, up to the last row. If memory runs out,
-    /// the copy stops sending.
+    /// the copy stops sending. Returns the copy.
     pub(crate) fn send_rows<T: Tamper, R: Wait>(
-        &mut self,
+        mut self,
         rt: &R,
         alloc: Global,
         run: &TwinRun<T>,
         queue: &FrameQueue,
-    )
+    ) -> Twin<J>
         requires known { AreKnown run.now.profile run.now.inputs }
         requires twin { IsTwin J.meaning run.now.profile run.now.inputs
-            (T.altered run.now.tamper) queue.now self.old }
+            (T.altered run.now.tamper) queue.now self }
         ensures twin { IsTwin J.meaning run.now.profile run.now.inputs
-            (T.altered run.now.tamper) queue.now self.new }
-        ensures copy { self.new.copy ≡ self.old.copy }
+            (T.altered run.now.tamper) queue.now result }
+        ensures copy { result.copy ≡ self.copy }
     {
         let pace = queue.pace();
         pace.sender_comes();
@@ -36,6 +36,7 @@ impl<J: Job> Twin<J> {
             self.send_next(rt, alloc, run, queue);
         }
         pace.sender_leaves();
+        self
     }
 
     /// Makes and sends the next row.

@@ -1,4 +1,3 @@
-pub mod Items
 pub mod Reading
 pub mod Scripted
 pub mod OpaqueState

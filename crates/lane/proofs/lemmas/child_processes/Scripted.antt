@@ -17,7 +17,7 @@ use Rattle.lane.specs.child_processes.Scripts.{KeepsToFirst}
 use Rattle.lane.specs.child_processes.MemSpawner.{state_of}
 use Rattle.lane.specs.declared.child_processes.mem_spawner.Script.{Script}
 use Rattle.lane.specs.declared.child_processes.mem_spawner.running_child.RunningChild.{RunningChild}
-use Rattle.lane.proofs.lemmas.child_processes.Items.{seen-at, put-at, put-beside, put-same, more-at, more-beside}
+use Rattle.det_io.proofs.Items.{length-none, seen-at, put-at, put-beside, put-same, more-at, more-beside}
 
 -- two lists of words are the same where their texts are
 pub same_words-texts : {A B : Type 0} (xs : List (String A)) (ys : List (String B))
@@ -144,10 +144,6 @@ child-reads scripts children told asked faults i n child front h e f =
           ∙ sym (ap (option_map (λ rest. front ++ rest)) (put-at (rest_of scripts) children i child next h e));
       others = λ k ne. put-beside (rest_of scripts) children i k next ne;
     }
-
-length-none : (xs : List ℕ) → length xs ≡ 0 → xs ≡ []
-length-none [] h = refl
-length-none (x ∷ xs) h = absurd (omega arith)
 
 -- a read that gives nothing where there was room for some finds nothing left
 pub child-end : (scripts : List Script) (children : List RunningChild) (i n room : ℕ) (child : RunningChild)

@@ -1,13 +1,5 @@
-use Rattle.std.proofs.Common.{List, ℕ, subst}
-use Rattle.det_io.specs.Traffic.{sink_run}
-use Rattle.cli_answers.specs.Outcome.{WritesLine}
+use Rattle.cli_answers.proofs.AnswerMeets.{ends-by}
 use Rattle.twin_cli.proofs.twin_program.twin_top.Goals as goal
 
 pub returns : goal.returns
-returns g c = record {
-  answer = c.run-answer.result;
-  is = c.status.ensures;
-  runs = c.run-answer.ensures;
-  line = subst (λ (line : List ℕ). WritesLine line (sink_run g.E.Sink.took g.E.Sink.faults c.args.err.now c.write_line.new.err))
-      c.line.ensures c.write_line.ensures;
-}
+returns g c = ends-by c.run-answer.result c.status.ensures c.run-answer.ensures c.line.ensures c.write_line.ensures

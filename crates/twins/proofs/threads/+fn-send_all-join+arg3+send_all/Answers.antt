@@ -3,38 +3,36 @@ use denote.Exit.{unseen}
 use denote.Param.{param}
 use denote.Param.Send.{IsSend, IsSync, Quiet-if}
 use Rattle.std.proofs.Common.{◌≡◌, ◌+◌, List, [], ◌∷◌, ◌++◌, rules, arith, length, sym, ap, ◌∙◌, subst, length-append}
-use Rattle.frame_queue.specs.declared.queue.FrameQueue.{FrameQueue}
-use Rattle.twins.proofs.Pairs.{pair_less, pair_more}
+use Rattle.twins.proofs.Begun.{same-numbers}
+use Rattle.twins.proofs.Pairs.{pair_split, pair_rejoin}
 use Rattle.twins.specs.TwinFrames.{IsTwin}
+use Rattle.twins.specs.TwinQueues.{numbers_of}
 use Rattle.twins.specs.Pairs.{EachPair}
 use Rattle.twins.proofs.threads.+fn-send_all-join+arg3+send_all.Goals as goal
 
-pub send_one_copy-requires-clause-twin : goal.send_one_copy-requires-clause-twin
-send_one_copy-requires-clause-twin g t c κs within =
+pub send_rows-requires-clause-twin : goal.send_rows-requires-clause-twin
+send_rows-requires-clause-twin g t c κs within =
     let twin = IsTwin g.J.Job.meaning c.args.run.now.profile c.args.run.now.inputs (g.T.Tamper.altered c.args.run.now.tamper) in
-    let apart = pair_less twin c.in-Some.front.now c.args.others.items c.in-Some.queue.now c.args.last
-    (subst (λ (queues : List FrameQueue). EachPair twin queues (c.args.others.items ++ c.args.last ∷ [])) c.in-Some.ensures.cases.0
-    c.requires.twins) in
-    apart.1
+    (pair_split twin _ c.in-Some.front.now c.args.others.items c.in-Some.queue.now c.args.last c.in-Some.ensures.cases.0
+    c.requires.twins).1
 
-pub returns-in_default-pop-clause-twins : goal.returns-in_default-pop-clause-twins
-returns-in_default-pop-clause-twins g t c =
+pub returns-in_default-pop-clause-sends : goal.returns-in_default-pop-clause-sends
+returns-in_default-pop-clause-sends g t c =
     let twin = IsTwin g.J.Job.meaning c.args.run.now.profile c.args.run.now.inputs (g.T.Tamper.altered c.args.run.now.tamper) in
-    let apart = pair_less twin c.in-Some.front.now c.args.others.items c.in-Some.queue.now c.args.last
-    (subst (λ (queues : List FrameQueue). EachPair twin queues (c.args.others.items ++ c.args.last ∷ [])) c.in-Some.ensures.cases.0
-    c.requires.twins) in
-    let same : c.args.others.items ≡ c.pop.new.self.items = search rules in
-    subst (λ (queues : List FrameQueue). EachPair twin queues (c.pop.new.self.items ++ c.send_one_copy.result ∷ []))
-    (sym c.in-Some.ensures.cases.0)
-    (pair_more twin c.in-Some.front.now c.pop.new.self.items c.in-Some.queue.now c.send_one_copy.result
-    (subst (λ twins. EachPair twin c.in-Some.front.now twins) same apart.0) c.send_one_copy.ensures.twin)
+    let apart = pair_split twin _ c.in-Some.front.now c.args.others.items c.in-Some.queue.now c.args.last c.in-Some.ensures.cases.0
+    c.requires.twins in
+    let same : c.pop.new.self.items ≡ c.args.others.items = search rules in
+    record {
+      twins = pair_rejoin twin _ c.in-Some.front.now c.args.others.items c.pop.new.self.items c.in-Some.queue.now c.send_rows.result
+          c.in-Some.ensures.cases.0 same apart.0 c.send_rows.ensures.twin;
+      numbers = search rules;
+    }
 
 pub join-last-requires-after_bounds : goal.join-last-requires-after_bounds
 join-last-requires-after_bounds g t c κs within =
     let twin = IsTwin g.J.Job.meaning c.args.run.now.profile c.args.run.now.inputs (g.T.Tamper.altered c.args.run.now.tamper) in
-    let apart = pair_less twin c.in-Some.front.now c.args.others.items c.in-Some.queue.now c.args.last
-    (subst (λ (queues : List FrameQueue). EachPair twin queues (c.args.others.items ++ c.args.last ∷ [])) c.in-Some.ensures.cases.0
-    c.requires.twins) in
+    let apart = pair_split twin _ c.in-Some.front.now c.args.others.items c.in-Some.queue.now c.args.last c.in-Some.ensures.cases.0
+    c.requires.twins in
     let pairs = subst (λ twins. EachPair twin c.in-Some.front.now twins) c.in-Some-pop.ensures.items apart.0 in
     let fewer : length c.args.others.items ≡ length c.pop.new.self.items + 1 =
     ap length c.in-Some-pop.ensures.items ∙ length-append c.pop.new.self.items (c.in-Some-pop.next ∷ []) in
@@ -92,12 +90,17 @@ join-last-requires-after_bounds g t c κs within =
       ),
     )
 
-pub returns-clause-twins : goal.returns-clause-twins
-returns-clause-twins g t c =
+pub returns-clause-sends : goal.returns-clause-sends
+returns-clause-sends g t c =
     let twin = IsTwin g.J.Job.meaning c.args.run.now.profile c.args.run.now.inputs (g.T.Tamper.altered c.args.run.now.tamper) in
     let others : EachPair twin c.in-Some.front.now (c.join-last.result.1.1.items ++ c.join-last.result.1.0 ∷ []) = search rules in
     let last : twin c.in-Some.queue.now c.join-last.result.0 = search rules in
-    subst (λ (queues : List FrameQueue). EachPair twin queues (c.put_back.new.twins.items ++ c.join-last.result.0 ∷ []))
-    (sym c.in-Some.ensures.cases.0)
-    (pair_more twin c.in-Some.front.now c.put_back.new.twins.items c.in-Some.queue.now c.join-last.result.0
-    (subst (λ twins. EachPair twin c.in-Some.front.now twins) (sym c.put_back.ensures.items) others) last)
+    let numbers : numbers_of (c.join-last.result.1.1.items ++ c.join-last.result.1.0 ∷ [])
+    ≡ numbers_of (c.pop.new.self.items ++ c.in-Some-pop.next ∷ []) = search rules in
+    let copy : c.join-last.result.0.copy ≡ c.args.last.copy = search rules in
+    record {
+      twins = pair_rejoin twin _ c.in-Some.front.now _ c.put_back.new.twins.items c.in-Some.queue.now c.join-last.result.0
+          c.in-Some.ensures.cases.0 c.put_back.ensures.items others last;
+      numbers = same-numbers c.put_back.new.twins.items c.args.others.items c.join-last.result.0 c.args.last
+          (ap numbers_of c.put_back.ensures.items ∙ numbers ∙ ap numbers_of (sym c.in-Some-pop.ensures.items)) copy;
+    }

@@ -1,4 +1,4 @@
-use Rattle.std.proofs.Common.{◌<◌, ◌-◌, ℕ, length, Some, sym, ap, ◌∙◌, subst, arith, length-take}
+use Rattle.std.proofs.Common.{◌<◌, ◌-◌, ℕ, length, Some, refl, sym, ap, ◌∙◌, subst, arith, length-take}
 use Rattle.std.specs.List.{All}
 use Rattle.std.proofs.lemmas.List.Elements.{All-get_or}
 use Rattle.det_values.specs.Values.{SampleValue}
@@ -25,17 +25,16 @@ cycle-requires-clause-events g c =
     subst (λ (n : ℕ). All (λ (s : SampleValue). s.event < n) c.in_ok-input.input.samples)
     (sym (stands_events g.J.Job.meaning c.args.run.now.profile c.args.self.now.engine _ c.requires.made.stands)) known
 
-pub returns-clause-frame : goal.returns-clause-frame
-returns-clause-frame g c =
+pub returns : goal.returns
+returns g c =
     let at = input-at g.J.Job.meaning c.args.run.now.profile c.args.run.now.inputs c.args.self.now.number c.item.result.now
     c.in_ok-input.input c.requires.opened c.requires.more c.item.ensures c.in_ok-input.ensures in
-    run-frame g.J.Job.meaning c.args.run.now.profile c.args.run.now.inputs c.args.self.now.number c.in_ok-input.input c.requires.opened at
-    ∙ ap (λ (x : RunFrame). Some (Run x)) (sym (c.in_ok-frame.ensures.frame c.args.run.now.profile _ c.requires.made.stands))
-
-pub returns-clause-made : goal.returns-clause-made
-returns-clause-made g c =
-    let at = input-at g.J.Job.meaning c.args.run.now.profile c.args.run.now.inputs c.args.self.now.number c.item.result.now
-    c.in_ok-input.input c.requires.opened c.requires.more c.item.ensures c.in_ok-input.ensures in
-    made-run g.J.Job.meaning c.args.run.now.profile c.args.run.now.inputs c.args.self.now.number c.in_ok-input.input c.args.self.now.engine
-    c.cycle.new.self c.requires.opened at c.in_ok-frame.ensures.after.going
-    (c.in_ok-frame.ensures.stands c.args.run.now.profile _ c.requires.made.stands)
+    record {
+      frame = run-frame g.J.Job.meaning c.args.run.now.profile c.args.run.now.inputs c.args.self.now.number c.in_ok-input.input
+          c.requires.opened at
+          ∙ ap (λ (x : RunFrame). Some (Run x)) (sym (c.in_ok-frame.ensures.frame c.args.run.now.profile _ c.requires.made.stands));
+      made = made-run g.J.Job.meaning c.args.run.now.profile c.args.run.now.inputs c.args.self.now.number c.in_ok-input.input
+          c.args.self.now.engine c.cycle.new.self c.requires.opened at c.in_ok-frame.ensures.after.going
+          (c.in_ok-frame.ensures.stands c.args.run.now.profile _ c.requires.made.stands);
+      keeps = refl;
+    }

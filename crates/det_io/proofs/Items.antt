@@ -1,10 +1,14 @@
--- Items of lists at an index, as they are seen through a function.
-use Rattle.std.proofs.Common.{◌≡◌, ◌≢◌, ◌<◌, ℕ, zero, suc, List, [], ◌∷◌, ◌++◌, length, set, map, get_or, refl, sym, ◌∙◌, ap}
+-- Items of lists at an index, as they are seen through a function, for shelves and spawners in memory.
+use Rattle.std.proofs.Common.{◌≡◌, ◌≢◌, ◌<◌, ℕ, zero, suc, List, [], ◌∷◌, ◌++◌, length, set, map, get_or, refl, sym, ◌∙◌, ap, arith}
 use Rattle.std.specs.Prelude.{Some}
 use Rattle.std.specs.List.{slice_get}
 use Rattle.std.specs.Option.{option_map}
 use Rattle.std.proofs.lemmas.List.{map-set, map-append, length-map}
 use Rattle.std.proofs.lemmas.Option.{slice_get-get_or, slice_get-map}
+
+pub length-none : {X : Type 0} (xs : List X) → length xs ≡ 0 → xs ≡ []
+length-none [] h = refl
+length-none (x ∷ xs) h = absurd (omega arith)
 
 set-at : {X : Type 0} (xs : List X) (i : ℕ) (v w : X) → slice_get xs i ≡ Some w → slice_get (set xs i v) i ≡ Some v
 set-at [] i v w h = cc
