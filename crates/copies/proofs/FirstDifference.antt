@@ -13,10 +13,12 @@ use Rattle.det_values.specs.declared.frames.Frame.TheVariants.{Register, Discove
 use Rattle.det_values.specs.contracts.refused_at.RefusedAtPartialEq.TheImpl as place
 use Rattle.det_values.specs.contracts.sample.SamplePartialEq.TheImpl as sample
 use Rattle.det_values.specs.Equal.{drawn_eq}
+use Rattle.det_values.proofs.Equality.{place_decides, sample_decides, time_decides}
+use Rattle.det_values.proofs.Same.{element_decides}
 use Rattle.copies.specs.declared.difference.Difference.{Difference}
 use Rattle.copies.specs.declared.difference.Difference.TheVariants as differences
 use Rattle.copies.specs.FirstDifference.{first_apart, outcome_difference, run_difference, frame_difference}
-use Rattle.copies.proofs.Equality.{bytes_decide, drawn_decides, place_decides, samples_decide, time_decides}
+use Rattle.copies.proofs.Equality.{bytes_decide}
 
 -- none exactly where the two are equal
 abbrev pub IsNoneIfSame : {A B : Type 0} → Option B → A → A → Type 0
@@ -67,7 +69,7 @@ either-none None p = (λ e. (refl, e), λ e f. f)
 pub unequal-elements : (cycle : ℕ) (es fs : List DrawnElement) (o p : List ℕ) → pointwise drawn_eq es fs ≡ false
     → element_difference cycle (first_apart drawn_eq 0 es fs) ≡ outcome_difference cycle (Finished es o) (Finished fs p)
 unequal-elements cycle es fs o p e = by (first_apart drawn_eq 0 es fs) (λ none.
-    differ (pointwise drawn_eq es fs) e ((pointwise_decides drawn_decides es fs).1 ((apart drawn_eq drawn_decides 0 es fs).0 none)))
+    differ (pointwise drawn_eq es fs) e ((pointwise_decides element_decides es fs).1 ((apart drawn_eq element_decides 0 es fs).0 none)))
   where
     differ : (r : Bool) → r ≡ false → r ≡ true → ⊥
     differ true e f = cc
@@ -83,14 +85,14 @@ pub equal-elements : (cycle : ℕ) (es fs : List DrawnElement) (o p : List ℕ) 
     → outcome_difference cycle (Finished es o) (Finished fs p) ≡ cond (pointwise nat_eq o p) None (Some (differences.Output cycle))
 equal-elements cycle es fs o p e =
     ap (λ (n : Option ℕ). option_or (element_difference cycle n) (cond (pointwise nat_eq o p) None (Some (differences.Output cycle))))
-    ((apart drawn_eq drawn_decides 0 es fs).1 ((pointwise_decides drawn_decides es fs).0 e))
+    ((apart drawn_eq element_decides 0 es fs).1 ((pointwise_decides element_decides es fs).0 e))
 
 outcome-apart : (cycle : ℕ) (a b : Outcome) → IsNoneIfSame (outcome_difference cycle a b) a b
 outcome-apart cycle (Finished es o) (Finished fs p) =
     let parts = either-none (element_difference cycle (first_apart drawn_eq 0 es fs))
     (cond (pointwise nat_eq o p) None (Some (differences.Output cycle))) in
     let output = guarded (pointwise nat_eq o p) (differences.Output cycle) None o p (bytes_decide o p) in
-    let elements = apart drawn_eq drawn_decides 0 es fs in
+    let elements = apart drawn_eq element_decides 0 es fs in
     let at = at-element cycle (first_apart drawn_eq 0 es fs) in (
       λ e. let both = parts.0 e in ap (λ x. Finished x o) (elements.0 (at.0 both.0)) ∙ ap (Finished fs) (output.0 both.1).0,
       λ e. parts.1 (at.1 (elements.1 (cc))) (output.1 (cc) refl),
@@ -110,7 +112,8 @@ run-apart : (cycle : ℕ) (a b : RunFrame) → IsNoneIfSame (run_difference cycl
 run-apart cycle a b =
     let outcome = outcome-apart cycle a.outcome b.outcome in
     let samples = guarded (pointwise sample.eq-value.it a.input.samples b.input.samples) (differences.Samples cycle)
-    (outcome_difference cycle a.outcome b.outcome) a.input.samples b.input.samples (samples_decide a.input.samples b.input.samples) in
+    (outcome_difference cycle a.outcome b.outcome) a.input.samples b.input.samples
+    (pointwise_decides sample_decides a.input.samples b.input.samples) in
     let time = guarded (option_eq nat_eq a.input.time b.input.time) (differences.Time cycle)
     (cond (pointwise sample.eq-value.it a.input.samples b.input.samples) (outcome_difference cycle a.outcome b.outcome)
     (Some (differences.Samples cycle))) a.input.time b.input.time (time_decides a.input.time b.input.time) in (

@@ -8,6 +8,7 @@ use Rattle.std.specs.List.{AllByRecursion}
 use Rattle.det_io.specs.Prefix.{IsPrefix}
 use Rattle.det_io.proofs.Prefixes.{prefix-none, prefix-same, prefix-then}
 use Rattle.det_values.specs.contracts.profile.ProfilePartialEq.TheImpl as profile
+use Rattle.det_values.proofs.Equality.{profile_decides}
 use Rattle.record_grammar.specs.declared.item.Item.{Item}
 use Rattle.record_grammar.specs.declared.item.Item.TheVariants as items
 use Rattle.record_grammar.specs.contracts.item.ItemPartialEq.TheImpl as item
@@ -20,7 +21,7 @@ use Rattle.copies.specs.declared.verdict.Verdict.{Verdict}
 use Rattle.copies.specs.declared.verdict.Verdict.TheVariants.{Differ}
 use Rattle.copies.specs.Rows.{first_row, row_at}
 use Rattle.copies.specs.Verdict.{row_difference, first_bad, first_other, row_verdict, shared, shared_by, verdict}
-use Rattle.copies.proofs.Equality.{item_decides, profile_decides}
+use Rattle.copies.proofs.Equality.{item_decides}
 use Rattle.copies.proofs.FirstDifference.{IsNoneIfSame, frame-apart}
 
 -- ---- one row

@@ -1,5 +1,5 @@
 -- A row of all copies.
-use Rattle.std.proofs.Common.{◌≡◌, ◌≢◌, inl, inr, ◌<◌, ◌≤◌, ◌+◌, ℕ, List, [], ◌∷◌, ◌++◌, map, length, Option, Some, None, Result, Ok, Err}
+use Rattle.std.proofs.Common.{◌≡◌, ◌≢◌, inr, ◌<◌, ◌≤◌, ◌+◌, ℕ, List, [], ◌∷◌, ◌++◌, map, length, Option, Some, None, Result, Ok, Err}
 use Rattle.std.proofs.Common.{refl, sym, ap, subst, ◌∙◌, length-append, take, drop, arith}
 use Rattle.std.proofs.lemmas.List.{append-nil, take_all, drop_all, length-map}
 use Rattle.std.specs.Result.{IsErrAnd}
@@ -11,23 +11,15 @@ use Rattle.det_io.specs.declared.failure.Stopped.TheVariants.{Refused, Failed}
 use Rattle.det_io.specs.Prefix.{IsPrefix}
 use Rattle.det_io.specs.Shelf.{ShelfState}
 use Rattle.record_grammar.specs.declared.item.Item.{Item}
-use Rattle.record_grammar.specs.declared.item.Item.TheVariants as items
-use Rattle.det_values.specs.declared.frames.Frame.{Frame}
-use Rattle.det_values.specs.declared.frames.Frame.TheVariants as frames
 use Rattle.record_grammar.specs.Record.{items as items_in}
-use Rattle.record_grammar.specs.declared.place.Place.{Place}
 use Rattle.record_view.specs.declared.view.ItemView.{ItemView}
-use Rattle.record_view.specs.declared.view.FrameKind.{FrameKind}
-use Rattle.record_view.specs.declared.view.FrameKind.TheVariants as frame_kinds
-use Rattle.record_view.specs.declared.view.ItemKind.{ItemKind}
-use Rattle.record_view.specs.declared.view.ItemKind.TheVariants as kinds
-use Rattle.record_view.specs.Shows.{ShowsFrame, ShowsParts}
 use Rattle.record_reader.specs.declared.item_reader.reader.ItemReader.{ItemReader}
 use Rattle.record_reader.specs.item_reader.StandsFor.{StandsFor, slot_of, room, unread}
 use Rattle.record_reader.specs.Salvaged.{cycles_of}
 use Rattle.record_reader.specs.InItems.{run_in}
 use Rattle.record_reader.proofs.Pieces.{cycles-next, cycles-few}
 use Rattle.record_reader.proofs.Items.{few_first}
+use Rattle.record_reader.proofs.Kept.{adds}
 use Rattle.det_io.proofs.SlotReads.{kept-same}
 use Rattle.copies.specs.declared.difference.Difference.{Difference}
 use Rattle.copies.specs.declared.row.Row.{Row}
@@ -43,7 +35,7 @@ use Rattle.copies.specs.Copies.{slots_of}
 use Rattle.record_reader.proofs.lemmas.item_reader.Needed.{while-weaker}
 use Rattle.copies.specs.Needed.{IsNeeded}
 use Rattle.copies.specs.ItemRows.{IsReaderAfter, AreReadersAfter, ReaderAtRow, ReadersAtRows, IsHeldAs}
-use Rattle.copies.specs.Copies.{row_of, runs_of, RoomFellIf, CopyNext, CopyStopped}
+use Rattle.copies.specs.Copies.{row_of, RoomFellIf, CopyNext, CopyStopped}
 use Rattle.copies.specs.CompareCopies.{EndsIfAgreed, Compared}
 use Rattle.copies.specs.Copies.{FindsBad, OthersRead, IsCounted, AreCopiesAfter, RowRead}
 use Rattle.copies.proofs.ItemRows.{behind-begins, row-shows, row-on, same-slot}
@@ -253,23 +245,6 @@ differs n row copy (r ∷ more) found state slots e = by (row_difference n row r
     by (Some x) later e = let is : found ≡ Differ copy x = cc in subst (λ v. EndsIfAgreed v state slots) (sym is) tt
     by None later e = later e
 
-frame-runs : (place : Place) (kind : FrameKind) (len : ℕ) (bytes : List ℕ) (frame : Frame) → ShowsFrame place kind len bytes frame
-    → length (run_in (items.Frame frame)) ≡ runs_of (kinds.Frame kind)
-frame-runs place frame_kinds.Register len bytes frames.Register h = refl
-frame-runs place frame_kinds.Discover len bytes frames.Discover h = refl
-frame-runs place (frame_kinds.Init count) len bytes (frames.Init elements) h = refl
-frame-runs place (frame_kinds.Run input outcome) len bytes (frames.Run r) h = refl
-frame-runs place frame_kinds.Terminate len bytes frames.Terminate h = refl
-frame-runs place kind len bytes frame h = elim h [ ]
-
--- how many cycles an item of one kind is
-pub runs-are : (place : Place) (kind : ItemKind) (len : ℕ) (bytes : List ℕ) (item : Item) → ShowsParts place kind len bytes item
-    → length (run_in item) ≡ runs_of kind
-runs-are place (kinds.Header layout) len bytes (items.Header p) h = refl
-runs-are place (kinds.Frame kind) len bytes (items.Frame frame) h = frame-runs place kind len bytes frame h
-runs-are place (kinds.Header layout) len bytes (items.Frame frame) h = absurd h
-runs-are place (kinds.Frame kind) len bytes (items.Header p) h = absurd h
-
 -- the same by the item of copy 0
 abbrev IsCountedAs : Option Item → Option Verdict → Option Verdict → Copies → Copies → Type 0
 IsCountedAs item (Some found) result old new = result ≡ Some found
@@ -284,7 +259,7 @@ counted-as None reader None None result old new held is = is
 counted-as (Some view) reader (Some item) None result old new held is = (
   is.0,
   is.1 ∙ ap (λ (n : ℕ). record old { rows = old.rows + 1; cycles = old.cycles + n })
-      (sym (runs-are view.place view.span.kind _ _ item held.shows.parts)),
+      (adds view.place view.span.kind _ _ item held.shows.parts).runs,
 )
 counted-as None reader (Some item) None result old new held is = absurd held
 counted-as (Some view) reader None None result old new held is = absurd held

@@ -8,11 +8,9 @@ use Rattle.det_io.specs.declared.failure.Stopped.TheVariants.{Refused, Failed}
 use Rattle.record_grammar.specs.declared.record_fault.Reason.TheVariants.{Truncated}
 use Rattle.record_grammar.specs.declared.record_fault.RecordFault.{RecordFault}
 use Rattle.record_grammar.specs.declared.item.Item.{Item}
+use Rattle.record_reader.specs.Kinds.{runs_of}
 use Rattle.record_reader.specs.Salvaged.{cycles_of}
 use Rattle.record_view.specs.declared.view.ItemView.{ItemView}
-use Rattle.record_view.specs.declared.view.FrameKind.TheVariants as frame_kinds
-use Rattle.record_view.specs.declared.view.ItemKind.{ItemKind}
-use Rattle.record_view.specs.declared.view.ItemKind.TheVariants as kinds
 use Rattle.record_reader.specs.declared.item_reader.reader.ItemReader.{ItemReader}
 use Rattle.record_reader.specs.declared.item_reader.comparison.Comparison.{Comparison}
 use Rattle.record_reader.specs.declared.item_reader.comparison.Comparison.TheVariants as likes
@@ -127,11 +125,6 @@ OthersRead (Err (Failed failure)) row first now given slots readers = failure �
 abbrev pub slots_of : Copies → List ℕ
 slots_of copies = slot_of copies.first ∷ map slot_of copies.others.items
 
--- how many cycles an item of this kind is
-abbrev pub runs_of : ItemKind → ℕ
-runs_of (kinds.Frame (frame_kinds.Run input outcome)) = 1
-runs_of kind = 0
-
 -- a copy that differs decides, then the end; an item that all copies hold is counted
 abbrev pub IsCounted : Option ItemView → Option Verdict → Option Verdict → Copies → Copies → Type 0
 IsCounted item (Some found) result old new = result ≡ Some found
@@ -140,8 +133,8 @@ IsCounted (Some view) None result old new = (result ≡ None)
     × (new ≡ record old { rows = old.rows + 1; cycles = old.cycles + runs_of view.span.kind })
 
 -- all copies gave these items, and they are counted
-pub record AreCopiesAfter (first now : ShelfState) (given : List Item) (slots : List ℕ) (copies : Copies)
-    : Type 0 where
+pub record AreCopiesAfter (first now : ShelfState) (given : List Item) (slots : List ℕ)
+    (copies : Copies) : Type 0 where
   pub readers : AreReadersAfter first now given slots (copies.first ∷ copies.others.items)
   pub rows : copies.rows ≡ length given
   pub cycles : copies.cycles ≡ cycles_of given

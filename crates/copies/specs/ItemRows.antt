@@ -10,7 +10,8 @@ use Rattle.record_reader.specs.item_reader.StandsFor.{StandsFor, Holds, slot_of}
 use Rattle.copies.specs.declared.row.Row.{Row}
 use Rattle.copies.specs.declared.row.Row.TheVariants as rows
 use Rattle.copies.specs.Rows.{ShowsRow}
-use Rattle.copies.specs.Needed.{IsNeeded}
+use Rattle.copies.specs.CompareCopies.{ReadsAmong}
+use Rattle.copies.specs.Needed.{IsNeeded, GaveNeeded}
 
 -- a reader gave these items of what its slot had at first
 pub record IsReaderAfter (first now : ShelfState) (given : List Item) (slot : ℕ)
@@ -27,6 +28,13 @@ AreReadersAfter first now given [] [] = Unit {0}
 AreReadersAfter first now given (slot ∷ slots) (reader ∷ readers) =
     IsReaderAfter first now given slot reader × AreReadersAfter first now given slots readers
 AreReadersAfter first now given slots readers = ⊥
+
+-- a row was read from the slot of a reader, and no byte after the row
+pub record ReadsRow (before after : ShelfState) (old new : ItemReader) : Type 0 where
+  pub needed : (first : ShelfState) (given : List Item) (slot : ℕ)
+      → IsReaderAfter first before given slot old → GaveNeeded first after (length given) slot
+  pub among : ReadsAmong before after (slot_of old ∷ [])
+  pub slot : slot_of new ≡ slot_of old
 
 -- where a reader is after a row
 abbrev pub ReaderGoesOn : Row → ItemReader → Type 0 → List ℕ → List Item → Type 0

@@ -1,19 +1,19 @@
 //! `Copies`: one reader for each copy, and the counts of what all of them gave.
-ghost use Rattle.std.specs.Prelude.{◌≡◌, ℕ, ◌<◌, ◌≤◌, List, [], ◌∷◌, Some, IfOk, map, length};
+ghost use Rattle.std.specs.Prelude.{ℕ, ◌<◌, ◌≤◌, List, [], Some, IfOk, length};
 ghost use Rattle.det_io.specs.Shelf.{ShelfState};
 ghost use Rattle.det_io.specs.Traffic.{ShelfTraffic, shelf_run, failure_in};
 ghost use Rattle.record_grammar.specs.declared.item.Item.{Item};
 ghost use Rattle.record_reader.specs.item_reader.StandsFor.{room};
 ghost use Rattle.copies.specs.CompareCopies.{AreDifferent, AreGiven, ReadsAmong};
 ghost use Rattle.copies.specs.Needed.{AllNeeded};
-ghost use Rattle.copies.specs.Copies.{slots_of, AreCopiesAfter};
-ghost use Rattle.copies.specs.Copies.{RowRead, IsCounted, runs_of};
+ghost use Rattle.copies.specs.Copies.{slots_of, AreCopiesAfter, RowRead, IsCounted};
 
 use crate::copy_readers::{compare_others, item_bytes, next_of_copy, readers_at};
 use crate::{BadCopy, Verdict};
 use det_io::{Slots, Stopped};
 use record_reader::item_reader::ItemReader;
-use record_view::{FrameKind, ItemKind, ItemView};
+use record_reader::runs_of;
+use record_view::ItemView;
 use std::alloc::{AllocError, Global};
 
 /// The readers of all copies. Each gave the same items so far.
@@ -86,16 +86,5 @@ impl Copies {
         self.rows += 1;
         self.cycles += runs_of(item.span.kind);
         None
-    }
-}
-
-/// The number of cycles in an item of this kind: 1 for a Run frame, else 0.
-pub fn runs_of(kind: ItemKind) -> u32
-    ensures value { result ≡ runs_of kind }
-    ensures most { result ≤ 1 }
-{
-    match kind {
-        ItemKind::Frame(FrameKind::Run { .. }) => 1,
-        _ => 0,
     }
 }

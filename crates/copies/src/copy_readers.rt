@@ -1,13 +1,14 @@
 //! Reads a row of each copy, one copy after another, and compares it with the row of copy 0.
-ghost use Rattle.std.specs.Prelude.{◌≡◌, ℕ, ◌<◌, ◌≤◌, List, [], ◌∷◌, IfOk, map, length};
+ghost use Rattle.std.specs.Prelude.{◌≡◌, ℕ, ◌<◌, ◌≤◌, List, [], IfOk, map, length};
 ghost use Rattle.std.specs.Prelude.{Option, Some};
 ghost use Rattle.det_io.specs.Shelf.{ShelfState};
 ghost use Rattle.det_io.specs.Traffic.{ShelfTraffic, shelf_run, failure_in};
 ghost use Rattle.record_grammar.specs.declared.item.Item.{Item};
 ghost use Rattle.record_reader.specs.item_reader.StandsFor.{StandsFor, slot_of, room};
 ghost use Rattle.copies.specs.CompareCopies.{AreDifferent, AreGiven, ReadsAmong};
-ghost use Rattle.copies.specs.Needed.{GaveNeeded, AllNeeded};
-ghost use Rattle.copies.specs.ItemRows.{IsReaderAfter, AreReadersAfter, IsHeldAs, IsSpelledBy};
+ghost use Rattle.copies.specs.Needed.{AllNeeded};
+ghost use Rattle.copies.specs.ItemRows.{IsReaderAfter, AreReadersAfter, ReadsRow, IsHeldAs};
+ghost use Rattle.copies.specs.ItemRows.{IsSpelledBy};
 ghost use Rattle.record_view.specs.Shows.{IsSpelling};
 ghost use Rattle.copies.specs.Copies.{row_of, copy_answer, CopyNext, CopyLike, CopyHeld};
 ghost use Rattle.copies.specs.Copies.{RoomFellIf, OthersRead};
@@ -46,11 +47,7 @@ pub fn next_of_copy<S: Slots>(
         → CopyNext result copy first (S.sees shelf.new) given slot reader.new }
     ensures room { (read : List ℕ) (given : List Item) → StandsFor reader.old read given
         → RoomFellIf result (room reader.old) (room reader.new) }
-    ensures needed { (first : ShelfState) (given : List Item) (slot : ℕ)
-        → IsReaderAfter first (S.sees shelf.old) given slot reader.old
-        → GaveNeeded first (S.sees shelf.new) (length given) slot }
-    ensures reads { ReadsAmong (S.sees shelf.old) (S.sees shelf.new) (slot_of reader.old ∷ []) }
-    ensures slot { slot_of reader.new ≡ slot_of reader.old }
+    ensures read { ReadsRow (S.sees shelf.old) (S.sees shelf.new) reader.old reader.new }
     ensures traffic { ShelfTraffic (shelf_run S.sees S.stays shelf.old shelf.new)
         (failure_in result) }
 {
@@ -85,11 +82,7 @@ fn compare_next_item<S: Slots>(
         → IsReaderAfter first (S.sees shelf.old) given slot reader.old
         → IsSpelling view item bytes.now
         → CopyLike result copy item first (S.sees shelf.new) given slot reader.new }
-    ensures needed { (first : ShelfState) (given : List Item) (slot : ℕ)
-        → IsReaderAfter first (S.sees shelf.old) given slot reader.old
-        → GaveNeeded first (S.sees shelf.new) (length given) slot }
-    ensures reads { ReadsAmong (S.sees shelf.old) (S.sees shelf.new) (slot_of reader.old ∷ []) }
-    ensures slot { slot_of reader.new ≡ slot_of reader.old }
+    ensures read { ReadsRow (S.sees shelf.old) (S.sees shelf.new) reader.old reader.new }
     ensures traffic { ShelfTraffic (shelf_run S.sees S.stays shelf.old shelf.new)
         (failure_in result) }
 {
@@ -125,11 +118,7 @@ fn compare_row<S: Slots>(
         → IsReaderAfter first (S.sees shelf.old) given slot reader.old
         → IsSpelledBy item bytes.now row → place.row ≡ length given
         → CopyHeld result place.copy (row_of row) first (S.sees shelf.new) given slot reader.new }
-    ensures needed { (first : ShelfState) (given : List Item) (slot : ℕ)
-        → IsReaderAfter first (S.sees shelf.old) given slot reader.old
-        → GaveNeeded first (S.sees shelf.new) (length given) slot }
-    ensures reads { ReadsAmong (S.sees shelf.old) (S.sees shelf.new) (slot_of reader.old ∷ []) }
-    ensures slot { slot_of reader.new ≡ slot_of reader.old }
+    ensures read { ReadsRow (S.sees shelf.old) (S.sees shelf.new) reader.old reader.new }
     ensures traffic { ShelfTraffic (shelf_run S.sees S.stays shelf.old shelf.new)
         (failure_in result) }
 {
@@ -159,11 +148,7 @@ fn compare_item<S: Slots>(
         → IsSpelling view item bytes.now → place.row ≡ length given
         → CopyHeld result place.copy (row_of (Some item)) first (S.sees shelf.new) given slot
         reader.new }
-    ensures needed { (first : ShelfState) (given : List Item) (slot : ℕ)
-        → IsReaderAfter first (S.sees shelf.old) given slot reader.old
-        → GaveNeeded first (S.sees shelf.new) (length given) slot }
-    ensures reads { ReadsAmong (S.sees shelf.old) (S.sees shelf.new) (slot_of reader.old ∷ []) }
-    ensures slot { slot_of reader.new ≡ slot_of reader.old }
+    ensures read { ReadsRow (S.sees shelf.old) (S.sees shelf.new) reader.old reader.new }
     ensures traffic { ShelfTraffic (shelf_run S.sees S.stays shelf.old shelf.new)
         (failure_in result) }
 {

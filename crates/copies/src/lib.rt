@@ -14,7 +14,6 @@ mod side_by_side;
 mod verdict;
 pub mod verdict_text;
 
-pub use copies::runs_of;
 pub use difference::Difference;
 pub use frame_differences::first_frame_difference;
 pub use row::Row;

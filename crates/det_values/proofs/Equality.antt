@@ -36,7 +36,7 @@ two_decide make first second made x y r s f g =
 pub sample_decides : (a b : SampleValue) → Decides (sample.eq-value.it a b) (a ≡ b)
 sample_decides a b = search rules
 
-time_decides : (a b : Option ℕ) → Decides (option_eq nat_eq a b) (a ≡ b)
+pub time_decides : (a b : Option ℕ) → Decides (option_eq nat_eq a b) (a ≡ b)
 time_decides a b = search rules
 
 pub input_decides : (a b : CycleInput) → Decides (input.eq-value.it a b) (a ≡ b)

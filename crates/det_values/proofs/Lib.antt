@@ -1,10 +1,10 @@
 mod FlatReading
 mod Fronts
-mod Same
+pub mod Same
 mod Walking
 mod Filling
 mod Undrawing
 mod Blocking
 mod Growing
 mod Joining
-mod Equality
+pub mod Equality

@@ -25,7 +25,7 @@ one_list (e ∷ es) (f ∷ fs) h k q =
     ap (λ (x : DrawnElement). x ∷ es) same
     ∙ ap (λ (xs : List DrawnElement). f ∷ xs) (one_list es fs (All-tail IsDrawn e es h) (All-tail IsDrawn f fs k) rest)
 
-element_decides : (e f : DrawnElement) → Decides (drawn_eq e f) (e ≡ f)
+pub element_decides : (e f : DrawnElement) → Decides (drawn_eq e f) (e ≡ f)
 element_decides e f =
     Decides-like (drawn_eq e f)
     (λ h. ap (λ xs. an_element xs e.draws) h.0 ∙ ap (λ n. an_element f.bytes n) h.1)

@@ -11,10 +11,10 @@ use Rattle.det_io.specs.declared.failure.Stopped.TheVariants.{Refused, Failed}
 use Rattle.record_grammar.specs.declared.item.Item.{Item}
 use Rattle.record_grammar.specs.declared.place.Place.{Place}
 use Rattle.record_grammar.specs.Record.{items as items_in, fault as fault_in}
+use Rattle.record_reader.specs.Kinds.{runs_of}
 use Rattle.record_reader.specs.Salvaged.{cycles_of}
 use Rattle.copies.specs.Verdict.{shared}
 use Rattle.copies.specs.CompareCopies.{AreLeft}
-use Rattle.copies.specs.Copies.{runs_of}
 use Rattle.cmd_records.specs.declared.voter.outcome.Dissenter.{Dissenter}
 use Rattle.cmd_records.specs.declared.voter.outcome.NoMajority.{NoMajority}
 use Rattle.cmd_records.specs.declared.voter.outcome.Vote.{Vote}

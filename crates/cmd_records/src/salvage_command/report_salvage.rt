@@ -5,7 +5,9 @@ ghost use Rattle.det_io.specs.Traffic.{failure_in};
 ghost use Rattle.probes.specs.Shows.{seen};
 ghost use Rattle.record_text.specs.Words.{number_line};
 ghost use Rattle.record_reader.specs.item_reader.StandsFor.{StandsFor, slot_of};
+ghost use Rattle.record_reader.specs.ItemTaker.{Wrote};
 ghost use Rattle.record_reader.specs.Salvages.{settled_by};
+ghost use Rattle.cmd_records.specs.record_show.PrintedItems.{IsFailed};
 ghost use Rattle.cmd_records.specs.salvage_command.ReportEnds.{Ended};
 
 use crate::record_show::{Printer, show_items};
@@ -45,9 +47,7 @@ pub(crate) fn report_salvage<S: Slots, K: Sink>(
     let read = show_items(reader, shelf, &mut printer, &mut Discard, audience);
     settle_fault(read, printer.has_begun)?;
     audience.finish(alloc)?;
-    let lines = report_lines(alloc, printer.cycles, audience.reports())?;
-    write_all(sink, &lines)?;
-    Ok(())
+    print_reports(alloc, printer.cycles, audience.reports(), sink)
 }
 
 /// Ignores a fault after Init.
@@ -61,6 +61,24 @@ fn settle_fault(
         Err(Stopped::Refused(_)) if has_begun => Ok(()),
         read => read,
     }
+}
+
+/// Prints the line with the number of salvaged runs, then the reports.
+fn print_reports<K: Sink>(
+    alloc: Global,
+    cycles: u32,
+    reports: &[u8],
+    sink: &mut K,
+) -> Result<(), Stopped<RecordFault>>
+    ensures wrote { Wrote result [] (number_line (codes "salvaged") cycles ++ reports.now)
+        (sink_run K.took K.faults sink.old sink.new) }
+    ensures fails { IsFailed result }
+    ensures traffic { SinkTraffic (sink_run K.took K.faults sink.old sink.new)
+        (failure_in result) }
+{
+    let lines = report_lines(alloc, cycles, reports)?;
+    write_all(sink, &lines)?;
+    Ok(())
 }
 
 /// The line with the number of salvaged runs, then the reports.

@@ -7,7 +7,7 @@ ghost use Rattle.det_io.specs.Traffic.{ShelfTraffic, shelf_run, failure_of};
 ghost use Rattle.record_grammar.specs.declared.item.Item.{Item};
 ghost use Rattle.record_reader.specs.item_reader.StandsFor.{slot_of};
 ghost use Rattle.copies.specs.CompareCopies.{AreDifferent, AreGiven, ReadsAmong};
-ghost use Rattle.copies.specs.ItemRows.{IsReaderAfter};
+ghost use Rattle.copies.specs.ItemRows.{IsReaderAfter, ReadsRow};
 ghost use Rattle.copies.specs.Needed.{GaveNeeded, AllNeeded};
 ghost use Rattle.cmd_records.specs.voter.Rows.{is_in_step, voter_slot, VoterIs, AreVoters};
 ghost use Rattle.cmd_records.specs.voter.Rows.{view_answer};
@@ -85,11 +85,7 @@ fn next_voter_row<S: Slots>(reader: &mut ItemReader, shelf: &mut S) -> Result<Ro
     ensures row { (first : ShelfState) (given : List Item) (slot : ℕ)
         → IsReaderAfter first (S.sees shelf.old) given slot reader.old
         → RowGiven result first (S.sees shelf.new) given slot reader.new }
-    ensures needed { (first : ShelfState) (given : List Item) (slot : ℕ)
-        → IsReaderAfter first (S.sees shelf.old) given slot reader.old
-        → GaveNeeded first (S.sees shelf.new) (length given) slot }
-    ensures reads { ReadsAmong (S.sees shelf.old) (S.sees shelf.new) (slot_of reader.old ∷ []) }
-    ensures slot { slot_of reader.new ≡ slot_of reader.old }
+    ensures read { ReadsRow (S.sees shelf.old) (S.sees shelf.new) reader.old reader.new }
     ensures traffic { ShelfTraffic (shelf_run S.sees S.stays shelf.old shelf.new)
         (failure_of result) }
 {

@@ -20,8 +20,8 @@ ghost use Rattle.cmd_records.specs.voter.VotersState.{IsVoteOf, dissenter, disse
 use crate::voter::majority::{majority_holders, mark_leavers};
 use crate::voter::voter_rows::{RowView, Voter, read_voter_rows, voters_at};
 use crate::voter::{Dissent, Dissenter, NoMajority, Vote};
-use copies::runs_of;
 use det_io::{Sink, Slots, Stopped, write_all};
+use record_reader::runs_of;
 use record_view::{ItemView, events_at};
 use std::alloc::{AllocError, Global};
 

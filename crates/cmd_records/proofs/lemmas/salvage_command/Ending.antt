@@ -14,7 +14,7 @@ use Rattle.det_io.specs.Prefix.{IsPrefix}
 use Rattle.det_io.specs.Sink.{Grew, GrewByPrefix}
 use Rattle.det_io.specs.Traffic.{ShelfRun, SinkRun, SinkTraffic, failure_in}
 use Rattle.det_io.proofs.Growth.{grew-none, same-none, part-none}
-use Rattle.det_io.proofs.Prefixes.{prefix-none, prefix-same, proper-length}
+use Rattle.det_io.proofs.Prefixes.{prefix-same, proper-length, proper-prefix}
 use Rattle.record_grammar.specs.declared.record_fault.RecordFault.{RecordFault}
 use Rattle.record_grammar.specs.declared.item.Item.{Item}
 use Rattle.record_grammar.specs.declared.item.Item.TheVariants as items
@@ -24,7 +24,7 @@ use Rattle.record_text.specs.Words.{number_line}
 use Rattle.record_reader.specs.SalvageState.{IsHeaded}
 use Rattle.record_reader.specs.Salvaged.{kept, is_init, salvaged_from}
 use Rattle.record_reader.specs.Salvages.{settled_by}
-use Rattle.record_reader.specs.ItemTaker.{AreAll, RecordRead, StopsAt, ItemsRead}
+use Rattle.record_reader.specs.ItemTaker.{AreAll, RecordRead, StopsAt, ItemsRead, Wrote}
 use Rattle.record_reader.proofs.Ending.{settle_fault-failure}
 use Rattle.record_reader.proofs.Items.{whole_has_init}
 use Rattle.record_reader.proofs.ItemTaker.{of-slot}
@@ -36,7 +36,7 @@ use Rattle.cli_answers.specs.declared.answer.Answer.TheVariants.{BadRecord}
 use Rattle.cli_answers.specs.Outcome.{Outcome, text_outcome, refusal}
 use Rattle.cmd_records.specs.declared.record_show.printer.Printer.{Printer}
 use Rattle.cmd_records.specs.salvage_command.Salvage.{outcome_by, salvaged_text, salvage_reports_outcome}
-use Rattle.cmd_records.specs.record_show.PrintedItems.{AreShown, showing}
+use Rattle.cmd_records.specs.record_show.PrintedItems.{AreShown, IsFailed, showing}
 use Rattle.cmd_records.proofs.lemmas.command_ends.Meeting.{discarded}
 use Rattle.record_text.specs.declared.show_part.ShowPart.TheVariants.{Reports}
 use Rattle.cmd_records.specs.salvage_command.ReportEnds.{SawFirst, Ended}
@@ -166,8 +166,33 @@ ReportsPrinted (Ok u) cycles old now out = (now.left ≡ reported old []) × (no
 ReportsPrinted (Err (Failed Write)) cycles old now out =
     (now.left ≡ reported old []) × (now.seeing ≡ [])
     × GrewByPrefix out.before out.after (number_line (codes "salvaged") cycles ++ reported old [])
-ReportsPrinted (Err (Failed OutOfMemory)) cycles old now out = Grew out.before out.after []
+ReportsPrinted (Err (Failed OutOfMemory)) cycles old now out =
+    GrewByPrefix out.before out.after (number_line (codes "salvaged") cycles ++ reported old [])
 ReportsPrinted (Err stop) cycles old now out = ⊥
+
+-- the audience has reported, and its reports were printed or cut off
+pub reports-printed : (result : Result (Unit {0}) (Stopped RecordFault)) (cycles : ℕ) (old now : AudienceState) (out : SinkRun)
+    (reports : List ℕ) → reports ≡ reported old [] → now.left ≡ reported old [] → now.seeing ≡ []
+    → Wrote result [] (number_line (codes "salvaged") cycles ++ reports) out → IsFailed result → ReportsPrinted result cycles old now out
+reports-printed result cycles old now out reports is left none wrote fails =
+    by result (subst (λ (more : List ℕ). Wrote result [] (number_line (codes "salvaged") cycles ++ more) out) is wrote) fails
+  where
+    by : (result : Result (Unit {0}) (Stopped RecordFault))
+        → Wrote result [] (number_line (codes "salvaged") cycles ++ reported old []) out → IsFailed result
+        → ReportsPrinted result cycles old now out
+    by (Ok u) w f = (left, none, w)
+    by (Err (Failed Write)) w f = (left, none, (w.0, proper-prefix w.0 _ w.1, w.2))
+    by (Err (Failed OutOfMemory)) w f = w
+    by (Err (Failed Read)) w f = absurd f
+    by (Err (Refused fault)) w f = absurd f
+
+-- printing reads nothing
+pub no-read-failed : (result : Result (Unit {0}) (Stopped RecordFault)) → IsFailed result → failure_in result ≡ Some Read → ⊥
+no-read-failed (Ok u) f e = cc
+no-read-failed (Err (Failed Write)) f e = cc
+no-read-failed (Err (Failed OutOfMemory)) f e = cc
+no-read-failed (Err (Failed Read)) f e = f
+no-read-failed (Err (Refused fault)) f e = f
 
 module _ (first mid now : AudienceState) (cycles : ℕ) (out : SinkRun) where
   gives-printed : (bytes : List ℕ) (result : Result (Unit {0}) (Stopped RecordFault)) → AllSeen first mid cycles bytes
@@ -179,7 +204,8 @@ module _ (first mid now : AudienceState) (cycles : ℕ) (out : SinkRun) where
   gives-printed bytes (Err (Refused f)) all p = absurd p
   gives-printed bytes (Err (Failed Read)) all p = absurd p
   gives-printed bytes (Err (Failed Write)) all p = subst (λ (o : Outcome). GrewByPrefix out.before out.after o.bytes) (sym all.is) p.2
-  gives-printed bytes (Err (Failed OutOfMemory)) all p = ([], prefix-none _, p)
+  gives-printed bytes (Err (Failed OutOfMemory)) all p =
+      subst (λ (o : Outcome). GrewByPrefix out.before out.after o.bytes) (sym all.is) p
 
   sees-printed : (bytes : List ℕ) (result : Result (Unit {0}) (Stopped RecordFault)) → AllSeen first mid cycles bytes
       → ReportsPrinted result cycles mid now out → UnlessNoMemory result (SawFirst first now bytes)
@@ -201,7 +227,7 @@ module _ (first mid now : AudienceState) (cycles : ℕ) (out : SinkRun) where
   broken-printed (Err (Refused f)) p e = absurd p
   broken-printed (Err (Failed Read)) p e = absurd p
   broken-printed (Err (Failed Write)) p e = absurd cc
-  broken-printed (Err (Failed OutOfMemory)) p e = p
+  broken-printed (Err (Failed OutOfMemory)) p e = absurd cc
 
 -- ---- the whole
 

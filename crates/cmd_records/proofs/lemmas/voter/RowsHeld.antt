@@ -14,19 +14,19 @@ use Rattle.record_grammar.specs.declared.place.Place.{Place}
 use Rattle.record_grammar.specs.Record.{items as items_in, fault as fault_in}
 use Rattle.record_view.specs.declared.view.ItemView.{ItemView}
 use Rattle.record_reader.specs.declared.item_reader.reader.ItemReader.{ItemReader}
+use Rattle.record_reader.specs.Kinds.{runs_of}
 use Rattle.record_reader.specs.Salvaged.{cycles_of}
-use Rattle.record_reader.specs.InItems.{run_in}
+use Rattle.record_reader.proofs.Kept.{adds}
 use Rattle.record_reader.proofs.Pieces.{cycles-next}
 use Rattle.copies.specs.declared.row.Row.{Row}
 use Rattle.copies.specs.declared.row.Row.TheVariants as rows
 use Rattle.copies.specs.Rows.{first_row, row_at}
 use Rattle.copies.specs.Verdict.{shared}
 use Rattle.copies.specs.CompareCopies.{AreLeft}
-use Rattle.copies.specs.Copies.{runs_of}
 use Rattle.copies.specs.ItemRows.{ReaderAtRow}
 use Rattle.copies.specs.Needed.{IsNeeded}
 use Rattle.copies.proofs.ItemRows.{behind-begins, row-shows}
-use Rattle.copies.proofs.Standing.{wider, runs-are}
+use Rattle.copies.proofs.Standing.{wider}
 use Rattle.cmd_records.specs.declared.voter.voter_rows.RowView.{RowView}
 use Rattle.cmd_records.specs.declared.voter.voter_rows.RowView.TheVariants as views
 use Rattle.cmd_records.specs.declared.voter.voter_rows.Voter.{Voter}
@@ -283,11 +283,6 @@ held-still place n same voters held x d all less holds = record {
       holds;
 }
 
--- the number of cycles of an item, by its kind
-held-runs : (place : Place) (reader : ItemReader) (view : ItemView) (x : Item) → HoldsAt place reader view x
-    → length (run_in x) ≡ runs_of view.span.kind
-held-runs place reader view x h = runs-are view.place view.span.kind _ _ x h.holds.shows.parts
-
 module _ (first now : ShelfState) (given : List Item) (slots : List ℕ) (after : List Voter) (more : List (Option Row))
     (votes : HaveVotes first now given slots after more) (all : AreHeld (place_behind given) after more) (copy : ℕ) (d : Voter)
     (less : copy < length after) (mid new : Voters) (row : Option Row) (held : is_held more row ≡ true)
@@ -312,7 +307,7 @@ module _ (first now : ShelfState) (given : List Item) (slots : List ℕ) (after 
       rows = let longer = length-append given (x ∷ []) in
           ap (λ (s : Voters). s.rows) counts ∙ ap (λ k. k + 1) n ∙ omega (arith, longer);
       cycles = ap (λ (s : Voters). s.cycles) counts ∙ ap (λ k. k + runs_of view.span.kind) cycles
-          ∙ ap (λ k. cycles_of given + k) (sym (held-runs (place_behind given) (get_or after copy d).reader view x holds))
+          ∙ ap (λ k. cycles_of given + k) (adds view.place view.span.kind _ _ x holds.holds.shows.parts).runs
           ∙ sym (cycles-next given x);
     },
     subst (λ vs. IsHeldIn vs (record { copy = copy; view = view }) (place_behind given) x) (sym voters)

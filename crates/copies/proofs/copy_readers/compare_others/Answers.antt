@@ -57,12 +57,13 @@ returns-in_err-difference-clause-others g c first given slots ours spelled ne be
 pub returns-in_err-difference-clause-reads : goal.returns-in_err-difference-clause-reads
 returns-in_err-difference-clause-reads g c =
     let h = c.others.invariant in
-    among-more _ c.others.readers c.others.index c.index-readers-index.result (search rules) h.slots h.reads c.compare_row.ensures.reads
+    among-more _ c.others.readers c.others.index c.index-readers-index.result (search rules) h.slots h.reads
+    c.compare_row.ensures.read.among
 
 pub returns-in_err-difference-clause-slots : goal.returns-in_err-difference-clause-slots
 returns-in_err-difference-clause-slots g c =
     slots-set c.others.readers c.others.index c.index-readers-index.result c.compare_row.new.reader (search rules)
-    c.compare_row.ensures.slot ∙ c.others.invariant.slots
+    c.compare_row.ensures.read.slot ∙ c.others.invariant.slots
 
 pub others-preserved : goal.others-preserved
 others-preserved g c =
@@ -72,19 +73,20 @@ others-preserved g c =
           others-next (c.others.index + 1) c.others.index c.others.found (row_of ours) first (g.S.Slots.sees c.others.shelf)
           (g.S.Slots.sees c.compare_row.new.shelf) given slots c.others.readers c.index-readers-index.result c.compare_row.new.reader
           (h.others first given slots ours spelled ne behind row) (search rules) (omega arith) c.in_ok-difference.difference
-          c.or-found.result (λ slot b. c.in_ok-difference.ensures.row first given slot ours b spelled row) c.compare_row.ensures.reads ne
+          c.or-found.result (λ slot b. c.in_ok-difference.ensures.row first given slot ours b spelled row)
+          c.compare_row.ensures.read.among ne
           (c.or-found.ensures ∙ ap (λ o. option_or c.others.found o) c.difference_verdict.ensures);
       needed = λ first given slots ours spelled ne behind row.
           let b = next-behind (c.others.index + 1) c.others.index c.others.found (row_of ours) first (g.S.Slots.sees c.others.shelf)
           (g.S.Slots.sees c.others.shelf) given slots c.others.readers c.index-readers-index.result c.index-readers-index.result
           (h.others first given slots ours spelled ne behind row) (search rules) (omega arith) in
           reader-needed first (g.S.Slots.sees c.others.shelf) (g.S.Slots.sees c.compare_row.new.shelf) given slots
-          (get_or c.others.readers c.others.index c.index-readers-index.result) b c.compare_row.ensures.reads
-          (λ slot k. c.compare_row.ensures.needed first given slot k) (h.needed first given slots ours spelled ne behind row);
+          (get_or c.others.readers c.others.index c.index-readers-index.result) c.compare_row.new.reader b c.compare_row.ensures.read
+          (h.needed first given slots ours spelled ne behind row);
       reads = among-more _ c.others.readers c.others.index c.index-readers-index.result (search rules) h.slots h.reads
-          c.compare_row.ensures.reads;
+          c.compare_row.ensures.read.among;
       slots = slots-set c.others.readers c.others.index c.index-readers-index.result c.compare_row.new.reader (search rules)
-          c.compare_row.ensures.slot ∙ h.slots;
+          c.compare_row.ensures.read.slot ∙ h.slots;
       traffic = search rules;
     }
 
@@ -100,8 +102,8 @@ returns-in_err-difference-clause-needed g c first given slots ours spelled ne be
     (g.S.Slots.sees c.others.shelf) given slots c.others.readers c.index-readers-index.result c.index-readers-index.result
     (h.others first given slots ours spelled ne behind row) (search rules) (omega arith) in
     reader-needed first (g.S.Slots.sees c.others.shelf) (g.S.Slots.sees c.compare_row.new.shelf) given slots
-    (get_or c.others.readers c.others.index c.index-readers-index.result) b c.compare_row.ensures.reads
-    (λ slot k. c.compare_row.ensures.needed first given slot k) (h.needed first given slots ours spelled ne behind row)
+    (get_or c.others.readers c.others.index c.index-readers-index.result) c.compare_row.new.reader b c.compare_row.ensures.read
+    (h.needed first given slots ours spelled ne behind row)
 
 pub returns-clause-needed : goal.returns-clause-needed
 returns-clause-needed g c first given slots ours spelled ne behind row =

@@ -1,5 +1,5 @@
 use Rattle.std.proofs.Common.{rules, sym, refl}
-use Rattle.copies.proofs.Equality.{frame_decides}
+use Rattle.det_values.proofs.Equality.{frame_decides}
 use Rattle.copies.proofs.FirstDifference.{frame-apart}
 use Rattle.copies.proofs.frame_differences.first_frame_difference.Goals as goal
 

@@ -1,7 +1,7 @@
 use Rattle.std.proofs.Common.{rules}
 use Rattle.record_grammar.specs.declared.item.Item.TheVariants as items
 use Rattle.copies.specs.declared.difference.Difference.TheVariants as differences
-use Rattle.copies.proofs.Equality.{profile_decides}
+use Rattle.det_values.proofs.Equality.{profile_decides}
 use Rattle.copies.proofs.Shown.{header_places, none-if, some-if}
 use Rattle.copies.proofs.item_differences.header_difference.Goals as goal
 

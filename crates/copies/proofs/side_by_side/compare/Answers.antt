@@ -55,14 +55,12 @@ read_row-requires-clause-stand g c = (
 
 pub returns-in_err-verdict-clause-needed : goal.returns-in_err-verdict-clause-needed
 returns-in_err-verdict-clause-needed g c copies left =
-    let stand = c.rows.invariant.stand.1 in
     shared-wider (g.S.Slots.sees c.args.shelf.now) (g.S.Slots.sees c.rows.shelf) (g.S.Slots.sees c.read_row.new.shelf)
-    c.rows.invariant.stand.0 c.args.slots.now (c.rows.copies.first ∷ c.rows.copies.others.items) copies stand.readers left
-    (c.read_row.ensures.needed (g.S.Slots.sees c.args.shelf.now) c.rows.invariant.stand.0 c.args.slots.now c.requires.different stand)
+    c.rows.invariant.stand.0 c.args.slots.now c.rows.copies copies c.rows.invariant.stand.1 (c.read_row.ensures.needed
+    (g.S.Slots.sees c.args.shelf.now) c.rows.invariant.stand.0 c.args.slots.now c.requires.different c.rows.invariant.stand.1) left
 
 pub returns-in-Some-clause-needed : goal.returns-in-Some-clause-needed
 returns-in-Some-clause-needed g c copies left =
-    let stand = c.rows.invariant.stand.1 in
     shared-wider (g.S.Slots.sees c.args.shelf.now) (g.S.Slots.sees c.rows.shelf) (g.S.Slots.sees c.read_row.new.shelf)
-    c.rows.invariant.stand.0 c.args.slots.now (c.rows.copies.first ∷ c.rows.copies.others.items) copies stand.readers left
-    (c.read_row.ensures.needed (g.S.Slots.sees c.args.shelf.now) c.rows.invariant.stand.0 c.args.slots.now c.requires.different stand)
+    c.rows.invariant.stand.0 c.args.slots.now c.rows.copies copies c.rows.invariant.stand.1 (c.read_row.ensures.needed
+    (g.S.Slots.sees c.args.shelf.now) c.rows.invariant.stand.0 c.args.slots.now c.requires.different c.rows.invariant.stand.1) left

@@ -1,14 +1,17 @@
-use Rattle.std.proofs.Common.{[], ◌∷◌, ◌++◌, Ok, rules, sym, subst, refl}
+use Rattle.std.proofs.Common.{◌≡◌, ℕ, List, [], ◌∷◌, ◌++◌, Ok, rules, sym, subst, refl}
 use Rattle.std.specs.Prelude.{Option, Result}
 use Rattle.det_io.specs.declared.failure.Stopped.{Stopped}
+use Rattle.det_io.specs.Shelf.{ShelfState}
 use Rattle.det_io.specs.Traffic.{ShelfTraffic, SinkTraffic, shelf_run, sink_run, failure_in}
 use Rattle.det_io.proofs.Growth.{grew-none, grew-then}
 use Rattle.det_io.specs.Sink.{Grew}
+use Rattle.record_grammar.specs.declared.item.Item.{Item}
 use Rattle.record_grammar.specs.Laws.{item_spelling}
 use Rattle.record_reader.proofs.lemmas.item_reader.Passing.{passed-on}
 use Rattle.cmd_records.specs.declared.voter.outcome.NoMajority.{NoMajority}
 use Rattle.cmd_records.specs.declared.voter.outcome.Vote.{Vote}
 use Rattle.cmd_records.specs.declared.voter.voters.HeldItem.{HeldItem}
+use Rattle.cmd_records.specs.declared.voter.voters.Voters.{Voters}
 use Rattle.cmd_records.specs.voter.VoteResult.{HasVoted}
 use Rattle.cmd_records.specs.voter.Rows.{place_behind}
 use Rattle.cmd_records.specs.voter.VotersState.{RowTaken}
@@ -19,6 +22,11 @@ use Rattle.cmd_records.proofs.lemmas.voter.Loop.{stand-rows, stand-cycles, stand
 use Rattle.cmd_records.proofs.lemmas.voter.Loop.{decided-few, decided}
 use Rattle.cmd_records.proofs.lemmas.voter.Loop.{none-item, no-read, needed-by}
 use Rattle.cmd_records.proofs.voter.vote_copies.vote.Goals as goal
+
+-- what was taken of a row, by the case of its item
+taken-as : (first last : ShelfState) (given : List Item) (slots : List ℕ) (voters : Voters) {item known : Option HeldItem} → item ≡ known
+    → RowTaken (Ok item) first last given slots voters → RowTaken (Ok known) first last given slots voters
+taken-as first last given slots voters is taken = subst (λ (o : Option HeldItem). RowTaken (Ok o) first last given slots voters) is taken
 
 pub rows-init : goal.rows-init
 rows-init g c = record {
@@ -83,17 +91,17 @@ returns-in_err-item-clause-sink_traffic g c =
 pub outcome-requires-clause-few : goal.outcome-requires-clause-few
 outcome-requires-clause-few g c =
     let h = c.rows.invariant.stand in
-    let d = (subst (λ (o : Option HeldItem). RowTaken (Ok o) (g.S.Slots.sees c.args.shelf.now) (g.S.Slots.sees c.next_row.new.shelf) h.0
-    c.args.slots.now c.next_row.new.self) (none-item c.in_ok-item.field-0 c.in_default.not-Some)
-    (c.in_ok-item.ensures.row (g.S.Slots.sees c.args.shelf.now) h.0 c.args.slots.now c.requires.different h.1)) in
+    let d = taken-as (g.S.Slots.sees c.args.shelf.now) (g.S.Slots.sees c.next_row.new.shelf) h.0 c.args.slots.now c.next_row.new.self
+    (none-item c.in_ok-item.field-0 c.in_default.not-Some)
+    (c.in_ok-item.ensures.row (g.S.Slots.sees c.args.shelf.now) h.0 c.args.slots.now c.requires.different h.1) in
     decided-few d c.requires.few
 
 pub returns-in_default-clause-voted : goal.returns-in_default-clause-voted
 returns-in_default-clause-voted g c =
     let h = c.rows.invariant.stand in
-    let d = (subst (λ (o : Option HeldItem). RowTaken (Ok o) (g.S.Slots.sees c.args.shelf.now) (g.S.Slots.sees c.next_row.new.shelf) h.0
-    c.args.slots.now c.next_row.new.self) (none-item c.in_ok-item.field-0 c.in_default.not-Some)
-    (c.in_ok-item.ensures.row (g.S.Slots.sees c.args.shelf.now) h.0 c.args.slots.now c.requires.different h.1)) in
+    let d = taken-as (g.S.Slots.sees c.args.shelf.now) (g.S.Slots.sees c.next_row.new.shelf) h.0 c.args.slots.now c.next_row.new.self
+    (none-item c.in_ok-item.field-0 c.in_default.not-Some)
+    (c.in_ok-item.ensures.row (g.S.Slots.sees c.args.shelf.now) h.0 c.args.slots.now c.requires.different h.1) in
     decided (g.S.Slots.sees c.args.shelf.now) (g.S.Slots.sees c.rows.shelf) (g.S.Slots.sees c.next_row.new.shelf) h.0 c.args.slots.now
     c.rows.voters c.next_row.new.self (sink_run g.K.Sink.took g.K.Sink.faults c.args.sink.now c.rows.sink) c.outcome.result h.1 d
     c.outcome.ensures h.2
@@ -111,25 +119,22 @@ returns-in_default-clause-reads g c = stand-reads c.rows.invariant.stand.1 c.row
 pub write-requires : goal.write-requires
 write-requires g c =
     let h = c.rows.invariant.stand in
-    let t = (subst (λ (o : Option HeldItem). RowTaken (Ok o) (g.S.Slots.sees c.args.shelf.now) (g.S.Slots.sees c.next_row.new.shelf) h.0
-    c.args.slots.now c.next_row.new.self) c.in-Some.is
-    (c.in_ok-item.ensures.row (g.S.Slots.sees c.args.shelf.now) h.0 c.args.slots.now c.requires.different h.1)) in
+    let t = taken-as (g.S.Slots.sees c.args.shelf.now) (g.S.Slots.sees c.next_row.new.shelf) h.0 c.args.slots.now c.next_row.new.self
+    c.in-Some.is (c.in_ok-item.ensures.row (g.S.Slots.sees c.args.shelf.now) h.0 c.args.slots.now c.requires.different h.1) in
     (place_behind h.0, t.0, t.2)
 
 pub rows-smaller : goal.rows-smaller
 rows-smaller g c =
     let h = c.rows.invariant.stand in
-    let t = (subst (λ (o : Option HeldItem). RowTaken (Ok o) (g.S.Slots.sees c.args.shelf.now) (g.S.Slots.sees c.next_row.new.shelf) h.0
-    c.args.slots.now c.next_row.new.self) c.in-Some.is
-    (c.in_ok-item.ensures.row (g.S.Slots.sees c.args.shelf.now) h.0 c.args.slots.now c.requires.different h.1)) in
+    let t = taken-as (g.S.Slots.sees c.args.shelf.now) (g.S.Slots.sees c.next_row.new.shelf) h.0 c.args.slots.now c.next_row.new.self
+    c.in-Some.is (c.in_ok-item.ensures.row (g.S.Slots.sees c.args.shelf.now) h.0 c.args.slots.now c.requires.different h.1) in
     smaller h.0 t.0 h.1 t.1
 
 pub rows-preserved : goal.rows-preserved
 rows-preserved g c =
     let h = c.rows.invariant.stand in
-    let t = (subst (λ (o : Option HeldItem). RowTaken (Ok o) (g.S.Slots.sees c.args.shelf.now) (g.S.Slots.sees c.next_row.new.shelf) h.0
-    c.args.slots.now c.next_row.new.self) c.in-Some.is
-    (c.in_ok-item.ensures.row (g.S.Slots.sees c.args.shelf.now) h.0 c.args.slots.now c.requires.different h.1)) in
+    let t = taken-as (g.S.Slots.sees c.args.shelf.now) (g.S.Slots.sees c.next_row.new.shelf) h.0 c.args.slots.now c.next_row.new.self
+    c.in-Some.is (c.in_ok-item.ensures.row (g.S.Slots.sees c.args.shelf.now) h.0 c.args.slots.now c.requires.different h.1) in
     let w = c.in_ok-write.ensures.writes (place_behind h.0) t.0 t.2 in
     record {
       stand = (
@@ -146,9 +151,8 @@ rows-preserved g c =
 pub returns-in_err-write-clause-voted : goal.returns-in_err-write-clause-voted
 returns-in_err-write-clause-voted g c =
     let h = c.rows.invariant.stand in
-    let t = (subst (λ (o : Option HeldItem). RowTaken (Ok o) (g.S.Slots.sees c.args.shelf.now) (g.S.Slots.sees c.next_row.new.shelf) h.0
-    c.args.slots.now c.next_row.new.self) c.in-Some.is
-    (c.in_ok-item.ensures.row (g.S.Slots.sees c.args.shelf.now) h.0 c.args.slots.now c.requires.different h.1)) in
+    let t = taken-as (g.S.Slots.sees c.args.shelf.now) (g.S.Slots.sees c.next_row.new.shelf) h.0 c.args.slots.now c.next_row.new.self
+    c.in-Some.is (c.in_ok-item.ensures.row (g.S.Slots.sees c.args.shelf.now) h.0 c.args.slots.now c.requires.different h.1) in
     let w = c.in_err-write.ensures.writes (place_behind h.0) t.0 t.2 in
     passed-on (λ (r : Result Vote (Stopped NoMajority)). HasVoted r (g.S.Slots.sees c.args.shelf.now) (g.S.Slots.sees c.next_row.new.shelf)
     c.args.slots.now (sink_run g.K.Sink.took g.K.Sink.faults c.args.sink.now c.write.new.sink))
@@ -172,9 +176,8 @@ returns-in_err-write-clause-reads g c = stand-reads c.rows.invariant.stand.1 c.r
 pub returns-in_err-write-clause-shelf_traffic : goal.returns-in_err-write-clause-shelf_traffic
 returns-in_err-write-clause-shelf_traffic g c =
     let h = c.rows.invariant.stand in
-    let t = (subst (λ (o : Option HeldItem). RowTaken (Ok o) (g.S.Slots.sees c.args.shelf.now) (g.S.Slots.sees c.next_row.new.shelf) h.0
-    c.args.slots.now c.next_row.new.self) c.in-Some.is
-    (c.in_ok-item.ensures.row (g.S.Slots.sees c.args.shelf.now) h.0 c.args.slots.now c.requires.different h.1)) in
+    let t = taken-as (g.S.Slots.sees c.args.shelf.now) (g.S.Slots.sees c.next_row.new.shelf) h.0 c.args.slots.now c.next_row.new.self
+    c.in-Some.is (c.in_ok-item.ensures.row (g.S.Slots.sees c.args.shelf.now) h.0 c.args.slots.now c.requires.different h.1) in
     let w = c.in_err-write.ensures.writes (place_behind h.0) t.0 t.2 in
     passed-on (λ (r : Result Vote (Stopped NoMajority)). ShelfTraffic
     (shelf_run g.S.Slots.sees g.S.Slots.stays c.args.shelf.now c.next_row.new.shelf) (failure_in r)) c.from_residual-in_err-write.result

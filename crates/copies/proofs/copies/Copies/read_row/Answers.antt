@@ -3,7 +3,6 @@ use Rattle.std.specs.Prelude.{Ok, map}
 use Rattle.std.specs.List.{AllByRecursion}
 use Rattle.record_reader.specs.declared.item_reader.reader.ItemReader.{ItemReader}
 use Rattle.record_reader.specs.item_reader.StandsFor.{slot_of, room}
-use Rattle.copies.specs.CompareCopies.{ReadsAmong}
 use Rattle.copies.specs.ItemRows.{AreReadersAfter}
 use Rattle.copies.proofs.Standing.{first-row, others-behind, stop-first, stop-others, all-rows, row-read, fell-first, row-stops}
 use Rattle.copies.proofs.Standing.{written-back}
@@ -22,8 +21,8 @@ pub compare_others-requires-clause-given : goal.compare_others-requires-clause-g
 compare_others-requires-clause-given g c =
     subst (λ (rs : List ItemReader). AllByRecursion (λ k. k < (g.S.Slots.sees c.next_of_copy.new.shelf).slots) (map slot_of rs))
     (search rules)
-    (subst (λ (n : ℕ). AllByRecursion (λ k. k < n) (map slot_of c.args.self.now.others.items)) (sym c.next_of_copy.ensures.reads.kept.slots)
-    c.requires.given.1)
+    (subst (λ (n : ℕ). AllByRecursion (λ k. k < n) (map slot_of c.args.self.now.others.items))
+    (sym c.next_of_copy.ensures.read.among.kept.slots) c.requires.given.1)
 
 pub item_bytes-bytes-requires : goal.item_bytes-bytes-requires
 item_bytes-bytes-requires g c =
@@ -46,7 +45,7 @@ compare_others-requires-clause-stand g c =
     let s = c.requires.stand in
     let same : c.args.self.now.others.items ≡ c.deref_mut.result.now = search rules in
     let b = others-behind s.0 (g.S.Slots.sees c.args.shelf.now) (g.S.Slots.sees c.next_of_copy.new.shelf) s.1 s.2
-    c.args.self.now.first c.args.self.now.others.items s.3 s.4.readers c.next_of_copy.ensures.reads in (
+    c.args.self.now.first c.args.self.now.others.items s.3 s.4.readers c.next_of_copy.ensures.read.among in (
       s.0,
       s.1,
       b.0,
@@ -58,30 +57,30 @@ compare_others-requires-clause-stand g c =
 pub returns-in_err-found-clause-row : goal.returns-in_err-found-clause-row
 returns-in_err-found-clause-row g c first given slots ne h =
     let same : c.args.self.now.others.items ≡ c.deref_mut.result.now = search rules in
-    let row = first-row first (g.S.Slots.sees c.args.shelf.now) (g.S.Slots.sees c.next_of_copy.new.shelf) given slots
-    c.args.self.now.first c.next_of_copy.new.reader c.args.self.now.others.items c.in_ok-item.item h.readers
-    (λ slot b. c.in_ok-item.ensures.row first given slot b) in
+    let behind = subst (λ rs. AreReadersAfter first (g.S.Slots.sees c.args.shelf.now) given slots (c.args.self.now.first ∷ rs)) same
+    h.readers in
+    let row = first-row first (g.S.Slots.sees c.args.shelf.now) (g.S.Slots.sees c.next_of_copy.new.shelf) given slots c.args.self.now.first
+    c.next_of_copy.new.reader c.deref_mut.result.now c.in_ok-item.item behind (c.in_ok-item.ensures.row first given) in
     row-stops first (g.S.Slots.sees c.compare_others.new.shelf) given slots (room c.args.self.now.first) _
     c.from_residual-in_err-found.result c.in_err-found.field-0.0 c.from_residual-in_err-found.ensures.1
     (stop-others first (g.S.Slots.sees c.args.shelf.now) (g.S.Slots.sees c.next_of_copy.new.shelf)
-    (g.S.Slots.sees c.compare_others.new.shelf) given c.args.self.now.first c.next_of_copy.new.reader c.args.self.now.others.items
-    c.compare_others.new.readers row.0 row.2 c.next_of_copy.ensures.reads slots c.in_err-found.field-0.0 ne h.readers
-    (λ others different b. c.in_err-found.ensures.others first given others row.0 (c.item_bytes-bytes.ensures row.0 row.1) different
-    (subst (λ rs. AreReadersAfter first (g.S.Slots.sees c.next_of_copy.new.shelf) given others rs) same b) h.rows))
+    (g.S.Slots.sees c.compare_others.new.shelf) given c.args.self.now.first c.next_of_copy.new.reader c.deref_mut.result.now
+    c.compare_others.new.readers row.0 row.2 c.next_of_copy.ensures.read.among slots c.in_err-found.field-0.0 ne behind
+    (λ others different b. c.in_err-found.ensures.others first given others row.0 (c.item_bytes-bytes.ensures row.0 row.1) different b
+    h.rows))
 
 pub returns-clause-row : goal.returns-clause-row
 returns-clause-row g c first given slots ne h =
     let same : c.args.self.now.others.items ≡ c.deref_mut.result.now = search rules in
-    let row = first-row first (g.S.Slots.sees c.args.shelf.now) (g.S.Slots.sees c.next_of_copy.new.shelf) given slots
-    c.args.self.now.first c.next_of_copy.new.reader c.args.self.now.others.items c.in_ok-item.item h.readers
-    (λ slot b. c.in_ok-item.ensures.row first given slot b) in
+    let behind = subst (λ rs. AreReadersAfter first (g.S.Slots.sees c.args.shelf.now) given slots (c.args.self.now.first ∷ rs)) same
+    h.readers in
+    let row = first-row first (g.S.Slots.sees c.args.shelf.now) (g.S.Slots.sees c.next_of_copy.new.shelf) given slots c.args.self.now.first
+    c.next_of_copy.new.reader c.deref_mut.result.now c.in_ok-item.item behind (c.in_ok-item.ensures.row first given) in
     let all = all-rows first (g.S.Slots.sees c.args.shelf.now) (g.S.Slots.sees c.next_of_copy.new.shelf)
-    (g.S.Slots.sees c.compare_others.new.shelf) given c.args.self.now.first c.next_of_copy.new.reader c.args.self.now.others.items
-    c.compare_others.new.readers row.0 row.2 c.next_of_copy.ensures.reads slots c.in_ok-found.found ne h.readers
-    (λ others different b. c.in_ok-found.ensures.others first given others row.0 (c.item_bytes-bytes.ensures row.0 row.1) different
-    (subst (λ rs. AreReadersAfter first (g.S.Slots.sees c.next_of_copy.new.shelf) given others rs) same b) h.rows)
-    (subst (λ rs. ReadsAmong (g.S.Slots.sees c.next_of_copy.new.shelf) (g.S.Slots.sees c.compare_others.new.shelf) (map slot_of rs))
-    (sym same) c.compare_others.ensures.reads) in
+    (g.S.Slots.sees c.compare_others.new.shelf) given c.args.self.now.first c.next_of_copy.new.reader c.deref_mut.result.now
+    c.compare_others.new.readers row.0 row.2 c.next_of_copy.ensures.read.among slots c.in_ok-found.found ne behind
+    (λ others different b. c.in_ok-found.ensures.others first given others row.0 (c.item_bytes-bytes.ensures row.0 row.1) different b
+    h.rows) c.compare_others.ensures.reads in
     row-read first (g.S.Slots.sees c.args.shelf.now) (g.S.Slots.sees c.compare_others.new.shelf) given slots
     (c.args.self.now.first ∷ c.args.self.now.others.items) c.compare_others.new.readers c.next_of_copy.new.reader c.in_ok-item.item row.0
     c.in_ok-found.found c.finish_row.result all.0 _ c.finish_row.new.self (room c.args.self.now.first) row.1 h.readers all.1 all.2 all.3
@@ -91,35 +90,25 @@ returns-clause-row g c first given slots ne h =
     (fell-first first (g.S.Slots.sees c.args.shelf.now) given slots c.args.self.now.first c.args.self.now.others.items h.readers
     (Ok c.in_ok-item.item) (room c.next_of_copy.new.reader) c.in_ok-item.ensures.room)
 
+-- ---- what was read is needed
+
 pub returns-in_err-item-clause-needed : goal.returns-in_err-item-clause-needed
 returns-in_err-item-clause-needed g c first given slots ne h =
     first-needed first (g.S.Slots.sees c.args.shelf.now) (g.S.Slots.sees c.next_of_copy.new.shelf) given slots c.args.self.now.first
-    c.args.self.now.others.items h.readers c.next_of_copy.ensures.reads (λ slot b. c.next_of_copy.ensures.needed first given slot b)
+    c.next_of_copy.new.reader c.args.self.now.others.items h.readers c.next_of_copy.ensures.read
 
 pub returns-in_err-found-clause-needed : goal.returns-in_err-found-clause-needed
 returns-in_err-found-clause-needed g c first given slots ne h =
-    let same : c.args.self.now.others.items ≡ c.deref_mut.result.now = search rules in
-    let row = first-row first (g.S.Slots.sees c.args.shelf.now) (g.S.Slots.sees c.next_of_copy.new.shelf) given slots
-    c.args.self.now.first c.next_of_copy.new.reader c.args.self.now.others.items c.in_ok-item.item h.readers
-    (λ slot b. c.in_ok-item.ensures.row first given slot b) in
     all-needed first (g.S.Slots.sees c.args.shelf.now) (g.S.Slots.sees c.next_of_copy.new.shelf) (g.S.Slots.sees c.compare_others.new.shelf)
-    given slots c.args.self.now.first c.args.self.now.others.items ne h.readers c.next_of_copy.ensures.reads
-    (λ slot b. c.next_of_copy.ensures.needed first given slot b)
-    (λ others different b. c.compare_others.ensures.needed first given others row.0 (c.item_bytes-bytes.ensures row.0 row.1) different
-    (subst (λ rs. AreReadersAfter first (g.S.Slots.sees c.next_of_copy.new.shelf) given others rs) same b) h.rows)
-    (subst (λ rs. ReadsAmong (g.S.Slots.sees c.next_of_copy.new.shelf) (g.S.Slots.sees c.compare_others.new.shelf) (map slot_of rs))
-    (sym same) c.compare_others.ensures.reads)
+    given slots c.args.self.now.first c.next_of_copy.new.reader c.args.self.now.others.items c.deref_mut.result.now c.in_ok-item.item
+    (search rules) ne h.readers c.next_of_copy.ensures.read (c.in_ok-item.ensures.row first given) (λ row held others different b.
+    c.compare_others.ensures.needed first given others row (c.item_bytes-bytes.ensures row held) different b h.rows)
+    c.compare_others.ensures.reads
 
 pub returns-clause-needed : goal.returns-clause-needed
 returns-clause-needed g c first given slots ne h =
-    let same : c.args.self.now.others.items ≡ c.deref_mut.result.now = search rules in
-    let row = first-row first (g.S.Slots.sees c.args.shelf.now) (g.S.Slots.sees c.next_of_copy.new.shelf) given slots
-    c.args.self.now.first c.next_of_copy.new.reader c.args.self.now.others.items c.in_ok-item.item h.readers
-    (λ slot b. c.in_ok-item.ensures.row first given slot b) in
     all-needed first (g.S.Slots.sees c.args.shelf.now) (g.S.Slots.sees c.next_of_copy.new.shelf) (g.S.Slots.sees c.compare_others.new.shelf)
-    given slots c.args.self.now.first c.args.self.now.others.items ne h.readers c.next_of_copy.ensures.reads
-    (λ slot b. c.next_of_copy.ensures.needed first given slot b)
-    (λ others different b. c.compare_others.ensures.needed first given others row.0 (c.item_bytes-bytes.ensures row.0 row.1) different
-    (subst (λ rs. AreReadersAfter first (g.S.Slots.sees c.next_of_copy.new.shelf) given others rs) same b) h.rows)
-    (subst (λ rs. ReadsAmong (g.S.Slots.sees c.next_of_copy.new.shelf) (g.S.Slots.sees c.compare_others.new.shelf) (map slot_of rs))
-    (sym same) c.compare_others.ensures.reads)
+    given slots c.args.self.now.first c.next_of_copy.new.reader c.args.self.now.others.items c.deref_mut.result.now c.in_ok-item.item
+    (search rules) ne h.readers c.next_of_copy.ensures.read (c.in_ok-item.ensures.row first given) (λ row held others different b.
+    c.compare_others.ensures.needed first given others row (c.item_bytes-bytes.ensures row held) different b h.rows)
+    c.compare_others.ensures.reads

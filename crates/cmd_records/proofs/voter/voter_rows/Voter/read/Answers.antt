@@ -22,7 +22,7 @@ returns-in_err-row-clause-row g c first given slot h =
 
 pub returns-in_err-row-clause-needed : goal.returns-in_err-row-clause-needed
 returns-in_err-row-clause-needed g c first given slot h =
-    c.next_voter_row.ensures.needed first given slot (step-behind c.args.self.now.left (search rules) h)
+    c.next_voter_row.ensures.read.needed first given slot (step-behind c.args.self.now.left (search rules) h)
 
 pub returns-clause-row : goal.returns-clause-row
 returns-clause-row g c first given slot h =
@@ -32,4 +32,4 @@ returns-clause-row g c first given slot h =
 
 pub returns-clause-needed : goal.returns-clause-needed
 returns-clause-needed g c first given slot h =
-    c.next_voter_row.ensures.needed first given slot (step-behind c.args.self.now.left (search rules) h)
+    c.next_voter_row.ensures.read.needed first given slot (step-behind c.args.self.now.left (search rules) h)
