@@ -12,12 +12,9 @@ use Rattle.record_grammar.specs.declared.place.Place.{Place}
 use Rattle.record_grammar.specs.declared.place.Layout.{Layout}
 use Rattle.record_grammar.specs.declared.item.Item.{Item}
 use Rattle.record_grammar.specs.declared.item.Item.TheVariants as items
-use Rattle.record_grammar.specs.Read.{Got, many}
-use Rattle.record_grammar.specs.Grammar.{element_at}
 use Rattle.record_codec.specs.Parts.{ShowsRun}
 use Rattle.record_view.specs.declared.view.InputView.{InputView}
 use Rattle.record_view.specs.declared.view.OutcomeView.{OutcomeView}
-use Rattle.record_view.specs.declared.view.FrameKind.{FrameKind}
 use Rattle.record_view.specs.declared.view.FrameKind.TheVariants as kinds
 use Rattle.record_view.specs.declared.view.FrameView.{FrameView}
 use Rattle.record_view.specs.declared.view.ItemKind.{ItemKind}
@@ -26,43 +23,18 @@ use Rattle.record_view.specs.declared.view.ItemView.{ItemView}
 use Rattle.record_view.specs.Parts.{undrawn}
 use Rattle.record_view.specs.Shows.{ShowsFrame, ShowsParts, IsSpelling, IsFrameSpelling}
 use Rattle.record_view.proofs.Headers.{header_place}
+use Rattle.record_view.proofs.InitFrames.{frame_parts}
 use Rattle.copies.specs.FirstDifference.{first_apart}
 
--- ---- Init
-
--- the elements that the view of an Init frame shows
-pub record IsInit (count len : ℕ) (bytes : List ℕ) (frame : Frame) : Type 0 where
-  pub elements : List (List ℕ)
-  pub is : frame ≡ frames.Init elements
-  pub reads : many element_at count (drop 5 bytes) ≡ Got (elements, drop len bytes)
-  pub order : 5 ≤ len
-
-init_of : (place : Place) (count len : ℕ) (bytes : List ℕ) (frame : Frame) → ShowsFrame place (kinds.Init count) len bytes frame
-    → IsInit count len bytes frame
-init_of place count len bytes (frames.Init elements) h = record { elements = elements; is = refl; reads = h.0; order = h.1 }
-init_of place count len bytes frames.Register h = absurd h
-init_of place count len bytes frames.Discover h = absurd h
-init_of place count len bytes (frames.Run r) h = absurd h
-init_of place count len bytes frames.Terminate h = absurd h
-
-pub is_init : (view : FrameView) (count : ℕ) (bytes : List ℕ) (frame : Frame) → view.kind ≡ kinds.Init count
-    → IsFrameSpelling view frame bytes → IsInit count view.len bytes frame
-is_init view count bytes frame is h =
-    init_of view.place count view.len bytes frame
-    (subst (λ (k : FrameKind). ShowsFrame view.place k view.len bytes frame) is h.shows.parts)
+-- ---- frames
 
 pub long_enough : (view : FrameView) (bytes : List ℕ) (frame : Frame) → 5 ≤ view.len → IsFrameSpelling view frame bytes → 5 ≤ length bytes
 long_enough view bytes frame le h = omega (arith, h.exact)
 
--- ---- runs
-
 run_of : (place : Place) (input : InputView) (outcome : OutcomeView) (len : ℕ) (bytes : List ℕ) (frame : Frame)
     → ShowsFrame place (kinds.Run input outcome) len bytes frame → (run : RunFrame) × ShowsRun place input outcome len bytes run
 run_of place input outcome len bytes (frames.Run r) h = (r, record { input_is = h.0; outcome_is = h.1 })
-run_of place input outcome len bytes frames.Register h = absurd h
-run_of place input outcome len bytes frames.Discover h = absurd h
-run_of place input outcome len bytes (frames.Init elements) h = absurd h
-run_of place input outcome len bytes frames.Terminate h = absurd h
+run_of place input outcome len bytes frame h = elim h [ ]
 
 -- the run that the view of a Run frame shows
 pub is_run : (view : FrameView) (input : InputView) (outcome : OutcomeView) (bytes : List ℕ) (frame : Frame)
@@ -70,7 +42,7 @@ pub is_run : (view : FrameView) (input : InputView) (outcome : OutcomeView) (byt
     → (run : RunFrame) × ShowsRun view.place input outcome (length bytes) bytes run
 is_run view input outcome bytes frame is h =
     let r = run_of view.place input outcome view.len bytes frame
-    (subst (λ (k : FrameKind). ShowsFrame view.place k view.len bytes frame) is h.shows.parts) in
+    (frame_parts view frame bytes (kinds.Run input outcome) is h) in
     (r.0, subst (λ (len : ℕ). ShowsRun view.place input outcome len bytes r.0) (sym h.exact) r.1)
 
 -- elements without draws differ where their bytes do

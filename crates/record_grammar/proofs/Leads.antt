@@ -23,8 +23,8 @@ use Rattle.record_grammar.specs.Record.{Decoded, faulty, ending_at, decoded, dec
 use Rattle.record_grammar.specs.Record.{fault_so_far, fault_so_far_from}
 use Rattle.record_grammar.specs.Leads.{Leads}
 use Rattle.det_values.specs.declared.frames.Outcome.TheVariants.{Refused}
-use Rattle.record_grammar.proofs.Steady.{IsSteady, bind_got, by_first, got, got_is, steady_give, steady_then}
-use Rattle.record_grammar.proofs.SteadyFields.{exactly_steady, finished, behind_magic, behind_magic_steady, profile_is, tagged_steady}
+use Rattle.record_grammar.proofs.Steady.{IsSteady, bind_got, by_first, got, got_is, steady_give}
+use Rattle.record_grammar.proofs.SteadyFields.{after_first, after_first_steady, finished, behind_magic, behind_magic_steady, profile_is, tagged_steady}
 use Rattle.record_grammar.proofs.SteadyFields.{frame_same, item_steady}
 
 -- ---- each item has a byte
@@ -56,25 +56,9 @@ exactly_takes : (bytes : List ℕ) (x : ℕ × List ℕ) → exactly_at Magic 68
 exactly_takes [] x e = absurd cc
 exactly_takes (b ∷ bytes) x e = taken (eqb b 68) 68 bytes (suc (length bytes)) x e
 
--- what comes after the first byte
-abbrev after_first : ℕ → List ℕ → Read ℕ
-after_first d bytes =
-    exactly_at Magic 69 bytes >>= λ e. exactly_at Magic 84 e.1 >>= λ t. exactly_at Magic 82 t.1 >>= λ r. exactly_at Magic 69 r.1 >>= λ f.
-    exactly_at Magic 67 f.1
-
-behind_first_steady : (d : ℕ) → IsSteady 0 (after_first d)
-behind_first_steady d =
-    steady_then 0 (exactly_at Magic 69) (λ e bytes. exactly_at Magic 84 bytes >>= λ t. exactly_at Magic 82 t.1 >>= λ r.
-    exactly_at Magic 69 r.1 >>= λ f. exactly_at Magic 67 f.1) (exactly_steady Magic 69) (λ e.
-    steady_then 0 (exactly_at Magic 84) (λ t bytes. exactly_at Magic 82 bytes >>= λ r. exactly_at Magic 69 r.1 >>= λ f.
-    exactly_at Magic 67 f.1) (exactly_steady Magic 84) (λ t.
-    steady_then 0 (exactly_at Magic 82) (λ r bytes. exactly_at Magic 69 bytes >>= λ f. exactly_at Magic 67 f.1) (exactly_steady Magic 82)
-    (λ r.
-    steady_then 0 (exactly_at Magic 69) (λ f bytes. exactly_at Magic 67 bytes) (exactly_steady Magic 69) (λ f. exactly_steady Magic 67))))
-
 magic_takes : (bytes : List ℕ) (x : ℕ × List ℕ) → magic_at bytes ≡ Got x → length x.1 < length bytes
 unfolding magic_at
-magic_takes bytes x e = then_takes (exactly_at Magic 68) after_first bytes x (exactly_takes bytes) behind_first_steady e
+magic_takes bytes x e = then_takes (exactly_at Magic 68) after_first bytes x (exactly_takes bytes) after_first_steady e
 
 profile_takes : (bytes : List ℕ) (x : ProfileValue × List ℕ) → profile_at bytes ≡ Got x → length x.1 < length bytes
 profile_takes bytes x e = then_takes magic_at behind_magic bytes x (magic_takes bytes) behind_magic_steady (sym (profile_is bytes) ∙ e)

@@ -1,5 +1,5 @@
 -- Each reader of the grammar is steady.
-use Rattle.std.proofs.Common.{◌≡◌, ℕ, suc, ◌-◌, cond, List, [], ◌∷◌, ◌++◌, length, Some, None, refl, ltb, eqb}
+use Rattle.std.proofs.Common.{◌≡◌, ℕ, suc, ◌-◌, Bool, cond, List, [], ◌∷◌, ◌++◌, length, Some, None, refl, ltb, eqb}
 use Rattle.std.specs.Int.{w64, cast_signed}
 use Rattle.det_values.specs.declared.format.Format.{Format}
 use Rattle.det_values.specs.declared.format.Format.TheVariants.{One, Two}
@@ -51,6 +51,12 @@ string_steady width most = steady_then 0 (number width 0 most) raw_at (number_st
 
 -- ---- the header
 
+-- a value behind a first byte that passes a test, or else this reason
+pub tested_steady : {A : Type 0} (passes : Bool) (a : A) (why : Reason)
+    → IsSteady 1 (λ bytes. cond passes (Got (a, bytes)) (Bad why (suc (length bytes))))
+tested_steady passes a why =
+    steady_if 1 passes (λ bytes. Got (a, bytes)) (λ bytes. Bad why (suc (length bytes))) (steady_give 1 a) (steady_refuse why)
+
 abbrev exactly_by : Reason → ℕ → ℕ → List ℕ → Read ℕ
 exactly_by reason expected b bytes = cond (eqb b expected) (Got (expected, bytes)) (Bad reason (suc (length bytes)))
 
@@ -62,23 +68,27 @@ exactly_same reason expected (b ∷ bytes) = refl
 pub exactly_steady : (reason : Reason) (expected : ℕ) → IsSteady 0 (exactly_at reason expected)
 exactly_steady reason expected =
     steady_same 0 (exactly_at reason expected) (by_first (exactly_by reason expected)) (exactly_same reason expected)
-    (steady_first (exactly_by reason expected) (λ b.
-    steady_if 1 (eqb b expected) (λ bytes. Got (expected, bytes)) (λ bytes. Bad reason (suc (length bytes))) (steady_give 1 expected)
-    (steady_refuse reason)))
+    (steady_first (exactly_by reason expected) (λ b. tested_steady (eqb b expected) expected reason))
 
-pub magic_steady : IsSteady 0 magic_at
-unfolding magic_at
-magic_steady =
-    steady_then 0 (exactly_at Magic 68) (λ d bytes. exactly_at Magic 69 bytes >>= λ e. exactly_at Magic 84 e.1 >>= λ t.
-    exactly_at Magic 82 t.1 >>= λ r. exactly_at Magic 69 r.1 >>= λ f. exactly_at Magic 67 f.1) (exactly_steady Magic 68) (λ d.
+-- what comes after the first byte of the magic
+abbrev pub after_first : ℕ → List ℕ → Read ℕ
+after_first d bytes =
+    exactly_at Magic 69 bytes >>= λ e. exactly_at Magic 84 e.1 >>= λ t. exactly_at Magic 82 t.1 >>= λ r. exactly_at Magic 69 r.1 >>= λ f.
+    exactly_at Magic 67 f.1
+
+pub after_first_steady : (d : ℕ) → IsSteady 0 (after_first d)
+after_first_steady d =
     steady_then 0 (exactly_at Magic 69) (λ e bytes. exactly_at Magic 84 bytes >>= λ t. exactly_at Magic 82 t.1 >>= λ r.
     exactly_at Magic 69 r.1 >>= λ f. exactly_at Magic 67 f.1) (exactly_steady Magic 69) (λ e.
     steady_then 0 (exactly_at Magic 84) (λ t bytes. exactly_at Magic 82 bytes >>= λ r. exactly_at Magic 69 r.1 >>= λ f.
     exactly_at Magic 67 f.1) (exactly_steady Magic 84) (λ t.
     steady_then 0 (exactly_at Magic 82) (λ r bytes. exactly_at Magic 69 bytes >>= λ f. exactly_at Magic 67 f.1) (exactly_steady Magic 82)
     (λ r.
-    steady_then 0 (exactly_at Magic 69) (λ f bytes. exactly_at Magic 67 bytes) (exactly_steady Magic 69) (λ f.
-    exactly_steady Magic 67)))))
+    steady_then 0 (exactly_at Magic 69) (λ f bytes. exactly_at Magic 67 bytes) (exactly_steady Magic 69) (λ f. exactly_steady Magic 67))))
+
+pub magic_steady : IsSteady 0 magic_at
+unfolding magic_at
+magic_steady = steady_then 0 (exactly_at Magic 68) after_first (exactly_steady Magic 68) after_first_steady
 
 abbrev pub format_by : ℕ → List ℕ → Read Format
 format_by b bytes = cond (eqb b 1) (Got (One, bytes)) (cond (eqb b 2) (Got (Two, bytes)) (Bad Version (suc (length bytes))))
@@ -93,8 +103,7 @@ format_steady =
     steady_same 0 format_at (by_first format_by) format_same (steady_first format_by (λ b.
     steady_if 1 (eqb b 1) (λ bytes. Got (One, bytes)) (λ bytes. cond (eqb b 2) (Got (Two, bytes)) (Bad Version (suc (length bytes))))
     (steady_give 1 One)
-    (steady_if 1 (eqb b 2) (λ bytes. Got (Two, bytes)) (λ bytes. Bad Version (suc (length bytes))) (steady_give 1 Two)
-    (steady_refuse Version))))
+    (tested_steady (eqb b 2) Two Version)))
 
 pub version_steady : IsSteady 0 version_at
 unfolding version_at
@@ -112,9 +121,8 @@ name_byte_same (b ∷ bytes) = refl
 
 pub name_byte_steady : IsSteady 0 name_byte_at
 name_byte_steady =
-    steady_same 0 name_byte_at (by_first name_byte_by) name_byte_same (steady_first name_byte_by (λ b.
-    steady_if 1 (allowed_in_name b) (λ bytes. Got (b, bytes)) (λ bytes. Bad Range (suc (length bytes))) (steady_give 1 b)
-    (steady_refuse Range)))
+    steady_same 0 name_byte_at (by_first name_byte_by) name_byte_same
+    (steady_first name_byte_by (λ b. tested_steady (allowed_in_name b) b Range))
 
 pub name_steady : IsSteady 0 name_at
 unfolding name_at
@@ -338,18 +346,11 @@ steady_more =
       within = λ bytes reason left e. absurd cc;
     }
 
--- only one frame may come in a place
-pub only_steady : {A : Type 0} (a : A) (b tag : ℕ)
-    → IsSteady 1 (λ bytes. cond (eqb b tag) (Got (a, bytes)) (Bad (tag_reason b) (suc (length bytes))))
-only_steady a b tag =
-    steady_if 1 (eqb b tag) (λ bytes. Got (a, bytes)) (λ bytes. Bad (tag_reason b) (suc (length bytes))) (steady_give 1 a)
-    (steady_refuse (tag_reason b))
-
 pub tagged_steady : (place : Place) (b : ℕ) → IsSteady 1 (tagged_at place b)
 unfolding tagged_at
 tagged_steady places.Header b = steady_more
-tagged_steady (places.Register layout) b = only_steady frames.Register b 1
-tagged_steady (places.Discover layout) b = only_steady frames.Discover b 2
+tagged_steady (places.Register layout) b = tested_steady (eqb b 1) frames.Register (tag_reason b)
+tagged_steady (places.Discover layout) b = tested_steady (eqb b 2) frames.Discover (tag_reason b)
 tagged_steady (places.Init layout) b =
     steady_if 1 (eqb b 3) init_at (λ bytes. Bad (tag_reason b) (suc (length bytes))) (steady_wider init_at init_steady)
     (steady_refuse (tag_reason b))
@@ -358,7 +359,7 @@ tagged_steady (places.Runs layout before) b =
     (λ bytes. cond (eqb b 5) (Got (frames.Terminate, bytes)) (Bad (tag_reason b) (suc (length bytes))))
     (steady_if 1 (ltb before 1000000) (run_at layout) (λ bytes. Bad TooMany (suc (length bytes)))
     (steady_wider (run_at layout) (run_steady layout)) (steady_refuse TooMany))
-    (only_steady frames.Terminate b 5)
+    (tested_steady (eqb b 5) frames.Terminate (tag_reason b))
 tagged_steady places.End b = steady_refuse Trailing
 
 pub frame_same : (place : Place) (bytes : List ℕ) → frame_at place bytes ≡ by_first (tagged_at place) bytes

@@ -1,5 +1,5 @@
 -- The items that a reader gives, one after another.
-use Rattle.std.proofs.Common.{◌≡◌, ◌≤◌, ◌+◌, ℕ, zero, suc, true, List, [], ◌∷◌, ◌++◌, length, None, refl, sym, ap, subst, ◌∙◌, arith}
+use Rattle.std.proofs.Common.{◌≡◌, ◌≤◌, ◌+◌, ℕ, zero, true, List, [], ◌∷◌, ◌++◌, length, None, refl, sym, ap, subst, ◌∙◌, arith}
 use Rattle.std.specs.List.{list_any}
 use Rattle.det_values.specs.declared.frames.Frame.{Frame}
 use Rattle.det_values.specs.declared.frames.Frame.TheVariants.{Register, Discover, Init, Run, Terminate}
@@ -9,16 +9,18 @@ use Rattle.record_grammar.specs.declared.place.Place.{Place}
 use Rattle.record_grammar.specs.declared.place.Place.TheVariants as places
 use Rattle.record_grammar.specs.declared.item.Item.{Item}
 use Rattle.record_grammar.specs.declared.item.Item.TheVariants as items
-use Rattle.record_grammar.specs.Read.{Read, Got, More, Bad}
+use Rattle.record_grammar.specs.Read.{Read, Got}
 use Rattle.record_grammar.specs.Grammar.{item_at}
 use Rattle.record_grammar.specs.Laws.{MayStand}
 use Rattle.record_grammar.specs.Places.{after, layout_of, format_of, CanFollow, may_come}
-use Rattle.record_grammar.specs.Record.{items as items_in, fault as fault_in, fault_from, ending_at, Decoded, Ending, whole, early, faulty}
-use Rattle.record_grammar.specs.Record.{with_next, decoded, decoded_all}
+use Rattle.record_grammar.specs.Record.{items as items_in, fault as fault_in, Decoded, with_next, decoded}
 use Rattle.record_grammar.specs.Leads.{Leads}
 use Rattle.record_grammar.specs.Spelling.{CanSpell}
 use Rattle.record_grammar.proofs.Leads.{can_follow, leads_grow, all_leads, room_falls}
+use Rattle.record_grammar.proofs.lemmas.record_laws.AllItems.{items_lead}
 use Rattle.record_grammar.proofs.lemmas.record_laws.Whole.{nil_more}
+pub use Rattle.record_grammar.proofs.lemmas.record_laws.AfterHeader.{HasLayout}
+use Rattle.record_grammar.proofs.lemmas.record_laws.AfterHeader.{layout_along, no_header}
 use Rattle.record_reader.specs.declared.item_reader.reader.ItemReader.{ItemReader}
 use Rattle.record_reader.specs.item_reader.StandsFor.{StandsFor, place_of, unread}
 use Rattle.record_reader.specs.ItemTaker.{AreFirst}
@@ -50,29 +52,6 @@ last_item (y ∷ given) place to bytes rest x h = let l = last_item given (after
 
 -- ---- the layout of a header stays
 
-abbrev pub HasLayout : Layout → Place → Type 0
-HasLayout layout places.Header = ⊥
-HasLayout layout (places.Register l) = l ≡ layout
-HasLayout layout (places.Discover l) = l ≡ layout
-HasLayout layout (places.Init l) = l ≡ layout
-HasLayout layout (places.Runs l before) = l ≡ layout
-HasLayout layout places.End = Unit {0}
-
-keeps_layout : (layout : Layout) (place : Place) (x : Item) → CanFollow place x → HasLayout layout place → HasLayout layout (after place x)
-keeps_layout layout (places.Register l) (items.Frame Register) k h = h
-keeps_layout layout (places.Discover l) (items.Frame Discover) k h = h
-keeps_layout layout (places.Init l) (items.Frame (Init elements)) k h = h
-keeps_layout layout (places.Runs l before) (items.Frame (Run r)) k h = h
-keeps_layout layout (places.Runs l before) (items.Frame Terminate) k h = tt
-keeps_layout layout places.Header x k h = absurd h
-keeps_layout layout place x k h = elim k [ ]
-
-all_layout : (layout : Layout) (xs : List Item) (place to : Place) (bytes rest : List ℕ) → Leads place bytes xs to rest
-    → HasLayout layout place → HasLayout layout to
-all_layout layout [] place to bytes rest l h = subst (HasLayout layout) l.0 h
-all_layout layout (x ∷ xs) place to bytes rest l h =
-    all_layout layout xs (after place x) to l.0 rest l.2 (keeps_layout layout place x (can_follow place bytes x l.0 l.1) h)
-
 spells_at : (layout : Layout) (place : Place) (bytes rest : List ℕ) (f : Frame) → HasLayout layout place → CanFollow place (items.Frame f)
     → item_at place bytes ≡ Got (items.Frame f, rest) → CanSpell layout.format layout.events f
 spells_at layout (places.Register l) bytes rest Register h k e = tt
@@ -85,7 +64,7 @@ spells_at layout place bytes rest f h k e = elim k [ ]
 
 pub header_first : (p : ProfileValue) (xs : List Item) (to : Place) (bytes rest : List ℕ)
     → Leads places.Header bytes (items.Header p ∷ xs) to rest → HasLayout (layout_of p) to
-header_first p xs to bytes rest h = all_layout (layout_of p) xs (places.Register (layout_of p)) to h.0 rest h.2 refl
+header_first p xs to bytes rest h = layout_along (layout_of p) xs (places.Register (layout_of p)) to h.0 rest h.2 refl
 
 can_spell : (p : ProfileValue) (xs : List Item) (f : Frame) (to : Place) (bytes rest : List ℕ)
     → Leads places.Header bytes (items.Header p ∷ (xs ++ items.Frame f ∷ [])) to rest → CanSpell p.format (length p.events) f
@@ -93,10 +72,6 @@ can_spell p xs f to bytes rest h =
     let l = last_item (items.Header p ∷ xs) places.Header to bytes rest (items.Frame f) h in
     spells_at (layout_of p) l.at l.here rest f (header_first p xs l.at bytes l.here l.leads)
     (can_follow l.at l.here (items.Frame f) rest l.got) l.got
-
-no_header : (layout : Layout) (place : Place) (p : ProfileValue) → HasLayout layout place → CanFollow place (items.Header p) → ⊥
-no_header layout places.Header p h k = h
-no_header layout place p h k = elim k [ ]
 
 -- no header comes after a header
 one_header : (p q : ProfileValue) (xs : List Item) (to : Place) (bytes rest : List ℕ)
@@ -107,17 +82,10 @@ one_header p q xs to bytes rest h =
 
 -- ---- the first item, and the last place
 
-not_first : (f : Frame) → CanFollow places.Header (items.Frame f) → ⊥
-not_first Register k = k
-not_first Discover k = k
-not_first (Init elements) k = k
-not_first (Run r) k = k
-not_first Terminate k = k
-
 -- the first item is no frame
 first_is_header : (f : Frame) (xs : List Item) (to : Place) (bytes rest : List ℕ) → Leads places.Header bytes (items.Frame f ∷ xs) to rest
     → ⊥
-first_is_header f xs to bytes rest l = not_first f (can_follow places.Header bytes (items.Frame f) l.0 l.1)
+first_is_header f xs to bytes rest l = elim (can_follow places.Header bytes (items.Frame f) l.0 l.1) [ ]
 
 -- an item after the first ones of a record: the header comes first and once, and a frame can be
 -- spelled after it
@@ -146,18 +114,11 @@ format_at layout (places.Init l) f h may = ap (λ (x : Layout). x.format) h
 format_at layout (places.Runs l before) f h may = ap (λ (x : Layout). x.format) h
 format_at layout places.End f h may = elim may [ ]
 
-stands_first : (f : Frame) → MayStand places.Header (items.Frame f) → ⊥
-stands_first Register may = may
-stands_first Discover may = may
-stands_first (Init elements) may = may
-stands_first (Run r) may = may
-stands_first Terminate may = may
-
 -- a frame after these items has the format of their header
 pub same_format : (given : List Item) (place : Place) (bytes rest : List ℕ) (f : Frame) → Leads places.Header bytes given place rest
     → MayStand place (items.Frame f) → format_of place ≡ format_after given
 same_format [] place bytes rest f leads may =
-    absurd (stands_first f (subst (λ (at : Place). MayStand at (items.Frame f)) (sym leads.0) may))
+    elim (subst (λ (at : Place). MayStand at (items.Frame f)) (sym leads.0) may) [ ]
 same_format (items.Header p ∷ xs) place bytes rest f leads may =
     format_at (layout_of p) place f (header_first p xs place bytes rest leads) may
 same_format (items.Frame g ∷ xs) place bytes rest f leads may = absurd (first_is_header g xs place bytes rest leads)
@@ -176,35 +137,6 @@ pub few_first : (given : List Item) → AreFirst given → length given ≤ 1000
 few_first given h = let few = room_leads given places.Header h.place h.bytes h.rest h.leads in omega (arith, few)
 
 -- ---- where a record is whole
-
-is_end : (place : Place) → ending_at place ≡ whole → place ≡ places.End
-is_end places.Header e = absurd cc
-is_end (places.Register layout) e = absurd cc
-is_end (places.Discover layout) e = absurd cc
-is_end (places.Init layout) e = absurd cc
-is_end (places.Runs layout before) e = absurd cc
-is_end places.End e = refl
-
-no_fault : (len : ℕ) (ending : Ending) → fault_from len ending ≡ None → ending ≡ whole
-no_fault len whole e = refl
-no_fault len early e = absurd cc
-no_fault len (faulty reason left) e = absurd cc
-
-whole_by : (n : ℕ) (place : Place) (bytes : List ℕ)
-    → ((next : Place) (mid : List ℕ) → (decoded n next mid).ending ≡ whole → (rest : List ℕ)
-    × Leads next mid (decoded n next mid).items places.End rest)
-    → (r : Read Item) → item_at place bytes ≡ r → (with_next place r (decoded n)).ending ≡ whole
-    → (rest : List ℕ) × Leads place bytes (with_next place r (decoded n)).items places.End rest
-whole_by n place bytes on (Got x) is e = let more = on (after place x.0) x.1 e in (more.0, (x.1, is, more.1))
-whole_by n place bytes on More is e = (bytes, (is_end place e, refl))
-whole_by n place bytes on (Bad reason left) is e = absurd cc
-
--- all items lead to the end
-whole_leads : (n : ℕ) (place : Place) (bytes : List ℕ) → (decoded n place bytes).ending ≡ whole
-    → (rest : List ℕ) × Leads place bytes (decoded n place bytes).items places.End rest
-unfolding decoded
-whole_leads zero place bytes e = absurd cc
-whole_leads (suc n) place bytes e = whole_by n place bytes (whole_leads n) (item_at place bytes) refl e
 
 abbrev BeforeInit : Place → Type 0
 BeforeInit places.Header = Unit {0}
@@ -234,8 +166,9 @@ passes_init (x ∷ xs) place bytes rest l h = next_init place x xs (can_follow p
 -- Init is among the items of a whole record
 pub whole_has_init : (bytes : List ℕ) → fault_in bytes ≡ None → list_any is_init (items_in bytes) ≡ true
 whole_has_init bytes e =
-    let leads = whole_leads (suc (length bytes)) places.Header bytes (no_fault (length bytes) (decoded_all bytes).ending e) in
-    passes_init (items_in bytes) places.Header bytes leads.0 leads.1 tt
+    let all = items_lead bytes in
+    let leads = subst (λ (to : Place). Leads places.Header bytes (items_in bytes) to all.rest) (all.end e) all.leads in
+    passes_init (items_in bytes) places.Header bytes all.rest leads tt
 
 -- ---- what may still come
 

@@ -17,7 +17,7 @@ use Rattle.record_grammar.specs.Grammar.{profile_at, input_at, refused_at, tag_r
 use Rattle.record_grammar.specs.Grammar.{run_at, tagged_at, frame_at, item_at}
 use Rattle.record_grammar.proofs.Steady.{IsSteady, steady_same, steady_give, steady_refuse, steady_then, steady_if, steady_wider, by_first}
 use Rattle.record_grammar.proofs.Steady.{steady_first}
-use Rattle.record_grammar.proofs.SteadyFields.{number_steady, profile_steady, input_steady, refused_steady, init_from_steady}
+use Rattle.record_grammar.proofs.SteadyFields.{tested_steady, number_steady, profile_steady, input_steady, refused_steady, init_from_steady}
 use Rattle.record_grammar.proofs.SteadyFields.{finished_from_steady, framed_steady}
 use Rattle.record_grammar.proofs.lemmas.record_laws.LawfulFields.{bind_bind, bind_same}
 use Rattle.record_grammar.specs.Laws.{tag_reason_at}
@@ -55,17 +55,11 @@ begun_run_steady layout =
 abbrev behind_tag : Place → ℕ → List ℕ → Read OpeningValue
 behind_tag place b bytes = tagged_opening place b bytes (suc (length bytes))
 
-one_frame : (f : Frame) (b tag : ℕ) (why : Reason)
-    → IsSteady 1 (λ bytes. cond (eqb b tag) (ready_frame (f, bytes)) (Bad why (suc (length bytes))))
-one_frame f b tag why =
-    steady_if 1 (eqb b tag) (λ bytes. ready_frame (f, bytes)) (λ bytes. Bad why (suc (length bytes)))
-    (steady_give 1 (ready (items.Frame f))) (steady_refuse why)
-
 tagged_steady : (place : Place) (b : ℕ) → IsSteady 1 (behind_tag place b)
 unfolding tagged_opening
 tagged_steady places.Header b = steady_refuse (tag_reason_at places.Header b)
-tagged_steady (places.Register layout) b = one_frame frames.Register b 1 (tag_reason b)
-tagged_steady (places.Discover layout) b = one_frame frames.Discover b 2 (tag_reason b)
+tagged_steady (places.Register layout) b = tested_steady (eqb b 1) (ready (items.Frame frames.Register)) (tag_reason b)
+tagged_steady (places.Discover layout) b = tested_steady (eqb b 2) (ready (items.Frame frames.Discover)) (tag_reason b)
 tagged_steady (places.Init layout) b =
     steady_if 1 (eqb b 3) (λ bytes. number 4 0 65536 bytes >>= count_init) (λ bytes. Bad (tag_reason b) (suc (length bytes)))
     (steady_wider (λ bytes. number 4 0 65536 bytes >>= count_init) (steady_then 0 (number 4 0 65536) (λ n bytes. count_init (n, bytes))
@@ -76,7 +70,7 @@ tagged_steady (places.Runs layout before) b =
     (λ bytes. cond (eqb b 5) (ready_frame (frames.Terminate, bytes)) (Bad (tag_reason b) (suc (length bytes))))
     (steady_if 1 (ltb before 1000000) (run_opening layout) (λ bytes. Bad TooMany (suc (length bytes)))
     (steady_wider (run_opening layout) (begun_run_steady layout)) (steady_refuse TooMany))
-    (one_frame frames.Terminate b 5 (tag_reason b))
+    (tested_steady (eqb b 5) (ready (items.Frame frames.Terminate)) (tag_reason b))
 tagged_steady places.End b = steady_refuse Trailing
 
 begun_first : (place : Place) → ((bytes : List ℕ) → opening_at place bytes ≡ by_first (behind_tag place) bytes)

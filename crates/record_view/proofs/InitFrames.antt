@@ -25,10 +25,7 @@ pub record IsInitOf (count len : ℕ) (bytes : List ℕ) (frame : Frame) : Type 
 init_by : (place : Place) (count len : ℕ) (bytes : List ℕ) (frame : Frame) → ShowsFrame place (kinds.Init count) len bytes frame
     → IsInitOf count len bytes frame
 init_by place count len bytes (frames.Init es) h = record { elements = es; is = refl; read = h.0; long = h.1 }
-init_by place count len bytes frames.Register h = absurd h
-init_by place count len bytes frames.Discover h = absurd h
-init_by place count len bytes (frames.Run r) h = absurd h
-init_by place count len bytes frames.Terminate h = absurd h
+init_by place count len bytes frame h = elim h [ ]
 
 pub of_init : (view : FrameView) (count : ℕ) (frame : Frame) (bytes : List ℕ) → view.kind ≡ kinds.Init count
     → IsFrameSpelling view frame bytes → IsInitOf count view.len bytes frame

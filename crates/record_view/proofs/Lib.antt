@@ -6,9 +6,9 @@ pub mod Over
 pub mod Suffix
 pub mod Reading
 pub mod Viewing
+pub mod Ended
 pub mod Growing
 pub mod Spelled
-pub mod Local
 pub mod Cutting
 pub mod Walked
 pub mod Undrawn

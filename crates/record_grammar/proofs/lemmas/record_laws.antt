@@ -1,3 +1,5 @@
+pub mod AfterHeader
+pub mod AllItems
 pub mod FirstFrames
 pub mod Growing
 pub mod HeaderParts

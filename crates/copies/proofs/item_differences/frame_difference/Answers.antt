@@ -1,36 +1,37 @@
 use Rattle.std.proofs.Common.{drop, refl}
-use Rattle.copies.proofs.Shown.{is_init, is_run, long_enough, undrawn_apart}
+use Rattle.copies.proofs.Shown.{is_run, long_enough, undrawn_apart}
+use Rattle.record_view.proofs.InitFrames.{of_init}
 use Rattle.copies.proofs.item_differences.frame_difference.Goals as goal
 
 pub view_init_elements-left-requires : goal.view_init_elements-left-requires
 view_init_elements-left-requires c =
-    let h = is_init c.args.left c.in-Init.elements c.args.left_bytes.now c.requires.0 c.in-Init.is c.requires.2 in (
+    let h = of_init c.args.left c.in-Init.elements c.requires.0 c.args.left_bytes.now c.in-Init.is c.requires.2 in (
       h.elements,
       drop c.args.left.len c.args.left_bytes.now,
-      h.reads,
-      long_enough c.args.left c.args.left_bytes.now c.requires.0 h.order c.requires.2,
+      h.read,
+      long_enough c.args.left c.args.left_bytes.now c.requires.0 h.long c.requires.2,
     )
 
 pub view_init_elements-right-requires : goal.view_init_elements-right-requires
 view_init_elements-right-requires c =
-    let h = is_init c.args.right c.in-Init-kind.others c.args.right_bytes.now c.requires.1 c.in-Init-kind.is c.requires.3 in (
+    let h = of_init c.args.right c.in-Init-kind.others c.requires.1 c.args.right_bytes.now c.in-Init-kind.is c.requires.3 in (
       h.elements,
       drop c.args.right.len c.args.right_bytes.now,
-      h.reads,
-      long_enough c.args.right c.args.right_bytes.now c.requires.1 h.order c.requires.3,
+      h.read,
+      long_enough c.args.right c.args.right_bytes.now c.requires.1 h.long c.requires.3,
     )
 
 pub returns-in-Init-kind : goal.returns-in-Init-kind
 returns-in-Init-kind c a b one other =
-    let x = is_init c.args.left c.in-Init.elements c.args.left_bytes.now a c.in-Init.is one in
-    let y = is_init c.args.right c.in-Init-kind.others c.args.right_bytes.now b c.in-Init-kind.is other in
+    let x = of_init c.args.left c.in-Init.elements a c.args.left_bytes.now c.in-Init.is one in
+    let y = of_init c.args.right c.in-Init-kind.others b c.args.right_bytes.now c.in-Init-kind.is other in
     rw (
       x.is,
       y.is,
       c.at_element.ensures,
       c.elements_apart.ensures,
-      c.view_init_elements-left.ensures.is x.elements _ x.reads,
-      c.view_init_elements-right.ensures.is y.elements _ y.reads,
+      c.view_init_elements-left.ensures.is x.elements _ x.read,
+      c.view_init_elements-right.ensures.is y.elements _ y.read,
       undrawn_apart,
       c.saturating_sub-cycle.ensures,
     ) refl

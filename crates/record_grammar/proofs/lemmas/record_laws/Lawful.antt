@@ -47,6 +47,22 @@ lawful_give {A} Fits a fits only = record {
   bad = λ bytes reason left are e. absurd cc;
 }
 
+-- a reader that refuses its first byte
+pub refused_first : {A : Type 0} (read : List ℕ → Read A) (b : ℕ) (bytes : List ℕ) (why reason : Reason) (left : ℕ) → read [] ≡ More
+    → ((other : List ℕ) → read (b ∷ other) ≡ Bad why (suc (length other))) → read (b ∷ bytes) ≡ Bad reason left
+    → IsRefused read (b ∷ bytes) reason left
+refused_first {A} read b bytes why reason left more refuses e =
+    let p = bad_is {A = A} why reason (suc (length bytes)) left (sym (refuses bytes) ∙ e) in
+    record {
+      before = [];
+      byte = b;
+      behind = bytes;
+      parts = refl;
+      counted = sym p.1;
+      goes_on = more;
+      refused = λ other. refuses other ∙ ap (λ (r : Reason). bad {A = A} r (suc (length other))) p.0;
+    }
+
 -- a byte that one reader refuses, refused by another that reads as the first does after some bytes
 refused_as : {A B : Type 0} (r : List ℕ → Read A) (s : List ℕ → Read B) (then : Read A → Read B) (front bytes rest : List ℕ)
     (reason : Reason) (left : ℕ) → then More ≡ More → ((n : ℕ) → then (Bad reason n) ≡ Bad reason n)
@@ -240,17 +256,7 @@ lawful_first {A} Fits tag spell f why example fits cases small = record {
     first_bad [] reason left are e = absurd cc
     first_bad (b ∷ bytes) reason left are e =
         elim (cases b (AreBytes-head b bytes are)) [
-          | inl n ↦
-              let p = bad_is (why b) reason (suc (length bytes)) left (sym (n.0 bytes) ∙ e) in
-              record {
-                before = [];
-                byte = b;
-                behind = bytes;
-                parts = refl;
-                counted = sym p.1;
-                goes_on = refl;
-                refused = λ other. n.0 other ∙ ap (λ (r : Reason). bad r (suc (length other))) p.0;
-              }
+          | inl n ↦ refused_first (by_first f) b bytes (why b) reason left refl n.0 e
           | inr l ↦
               refused_as (f b) (by_first f) (λ q. q) (b ∷ []) (b ∷ bytes) bytes reason left refl (λ n. refl) (λ xs. refl) refl
               (l.bad bytes reason left (AreBytes-tail b bytes are) e)

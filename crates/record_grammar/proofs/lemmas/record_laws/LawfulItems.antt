@@ -290,25 +290,13 @@ one_frame_lawful f tag place only stands spelling =
     (λ g h. subst (λ (k : Frame). MayStand place (items.Frame k)) (sym h) stands)
     (λ x h. ap (item_spelling place) (only x h) ∙ spelling)
 
-register_item_lawful : (layout : Layout)
-    → IsLawful (MayStand (places.Register layout)) (item_spelling (places.Register layout))
-    (λ bytes. frame_at (places.Register layout) bytes >>= λ f. Got (items.Frame f.0, f.1))
-unfolding spelled_frame
-register_item_lawful layout = one_frame_lawful frames.Register 1 (places.Register layout) only tt refl (register_lawful layout)
-  where
-    only : (x : Item) → MayStand (places.Register layout) x → x ≡ items.Frame frames.Register
-    only (items.Frame frames.Register) h = refl
-    only x h = elim h [ ]
+only_register : (layout : Layout) (x : Item) → MayStand (places.Register layout) x → x ≡ items.Frame frames.Register
+only_register layout (items.Frame frames.Register) h = refl
+only_register layout x h = elim h [ ]
 
-discover_item_lawful : (layout : Layout)
-    → IsLawful (MayStand (places.Discover layout)) (item_spelling (places.Discover layout))
-    (λ bytes. frame_at (places.Discover layout) bytes >>= λ f. Got (items.Frame f.0, f.1))
-unfolding spelled_frame
-discover_item_lawful layout = one_frame_lawful frames.Discover 2 (places.Discover layout) only tt refl (discover_lawful layout)
-  where
-    only : (x : Item) → MayStand (places.Discover layout) x → x ≡ items.Frame frames.Discover
-    only (items.Frame frames.Discover) h = refl
-    only x h = elim h [ ]
+only_discover : (layout : Layout) (x : Item) → MayStand (places.Discover layout) x → x ≡ items.Frame frames.Discover
+only_discover layout (items.Frame frames.Discover) h = refl
+only_discover layout x h = elim h [ ]
 
 init_item_lawful : (layout : Layout)
     → IsLawful (MayStand (places.Init layout)) (item_spelling (places.Init layout))
@@ -356,10 +344,12 @@ runs_item_lawful layout before few =
 
 pub item_lawful : (place : Place) → (place ≡ places.End → ⊥) → EventsFit place
     → IsLawful (MayStand place) (item_spelling place) (item_at place)
-unfolding item_at
+unfolding item_at spelled_frame
 item_lawful places.Header ne few = header_item_lawful
-item_lawful (places.Register layout) ne few = register_item_lawful layout
-item_lawful (places.Discover layout) ne few = discover_item_lawful layout
+item_lawful (places.Register layout) ne few =
+    one_frame_lawful frames.Register 1 (places.Register layout) (only_register layout) tt refl (register_lawful layout)
+item_lawful (places.Discover layout) ne few =
+    one_frame_lawful frames.Discover 2 (places.Discover layout) (only_discover layout) tt refl (discover_lawful layout)
 item_lawful (places.Init layout) ne few = init_item_lawful layout
 item_lawful (places.Runs layout before) ne few = runs_item_lawful layout before few
 item_lawful places.End ne few = absurd (ne refl)

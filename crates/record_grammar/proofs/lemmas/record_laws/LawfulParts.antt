@@ -144,6 +144,21 @@ sample_lawful events some few =
     (a_sample event)
     (λ s h. (h.0.1, ap (λ (n : ℕ). a_sample n s.value) h.1)) (λ z h. (((omega (arith, he.1, some), h), refl), refl)) sample_value_lawful)
 
+abbrev pub at_least_one : ℕ → ℕ
+at_least_one zero = 1
+at_least_one (suc events) = suc events
+
+-- without events, a sample is read as one of the only event
+pub any_sample_lawful : (events : ℕ) → events ≤ 65536 → IsLawful (IsSample (at_least_one events)) spelled_sample (sample_at events)
+unfolding sample_at
+any_sample_lawful zero few =
+    lawful_read (IsSample 1) spelled_sample (sample_at 0) (sample_at 1) (λ bytes. refl) (sample_lawful 1 (lit< tt) (lit≤ tt))
+any_sample_lawful (suc events) few = sample_lawful (suc events) (omega arith) few
+
+pub some_sample : (events : ℕ) → (s : SampleValue) × IsSample (at_least_one events) s
+some_sample zero = (a_sample 0 (pos 0), (lit< tt, zero_is))
+some_sample (suc events) = (a_sample 0 (pos 0), (omega arith, zero_is))
+
 abbrev AreSamples : ℕ → List SampleValue → Type 0
 AreSamples events samples = (length samples ≤ 4096) × All (IsSample events) samples
 

@@ -10,41 +10,25 @@ use Rattle.det_values.specs.Values.{ProfileValue}
 use Rattle.record_grammar.specs.declared.place.Layout.{Layout}
 use Rattle.record_grammar.specs.declared.place.Place.{Place}
 use Rattle.record_grammar.specs.declared.place.Place.TheVariants as places
+use Rattle.record_grammar.specs.declared.item.Item.{Item}
 use Rattle.record_grammar.specs.declared.item.Item.TheVariants as items
 use Rattle.record_grammar.specs.Places.{after, layout_of, CanFollow}
-use Rattle.record_grammar.specs.Spelling.{IsFrame, spelled_header, spelled_frame, AreRun, Spells, spelled}
+use Rattle.record_grammar.specs.Spelling.{IsFrame, spelled_header, spelled_frame, AreRun, Spells, SpellsWhole, spelled}
 use Rattle.record_grammar.specs.Laws.{MayStand, AreItems, item_spelling, items_spelling, items_of, IsInOrder}
+use Rattle.record_grammar.proofs.lemmas.record_laws.AfterHeader.{HasLayout, keeps_layout, all_frames}
 
 -- frames that may follow one another, by their kinds, from one place to another
-abbrev Follow : Place → List Frame → Place → Type 0
+abbrev pub Follow : Place → List Frame → Place → Type 0
 Follow place [] to = place ≡ to
 Follow place (f ∷ fs) to = CanFollow place (items.Frame f) × Follow (after place (items.Frame f)) fs to
 
--- a place after a header
-abbrev IsBehind : Layout → Place → Type 0
-IsBehind layout places.Header = ⊥
-IsBehind layout (places.Register other) = other ≡ layout
-IsBehind layout (places.Discover other) = other ≡ layout
-IsBehind layout (places.Init other) = other ≡ layout
-IsBehind layout (places.Runs other before) = other ≡ layout
-IsBehind layout places.End = Unit {0}
-
-behind_after : (layout : Layout) (place : Place) (f : Frame) → CanFollow place (items.Frame f) → IsBehind layout place
-    → IsBehind layout (after place (items.Frame f))
-behind_after layout (places.Register other) frames.Register h b = b
-behind_after layout (places.Discover other) frames.Discover h b = b
-behind_after layout (places.Init other) (frames.Init elements) h b = b
-behind_after layout (places.Runs other before) (frames.Run r) h b = b
-behind_after layout (places.Runs other before) frames.Terminate h b = tt
-behind_after layout place f h b = elim h [ ]
-
-behind_along : (layout : Layout) (fs : List Frame) (place to : Place) → Follow place fs to → IsBehind layout place → IsBehind layout to
-behind_along layout [] place to h b = subst (IsBehind layout) h b
-behind_along layout (f ∷ fs) place to h b = behind_along layout fs (after place (items.Frame f)) to h.1 (behind_after layout place f h.0 b)
+behind_along : (layout : Layout) (fs : List Frame) (place to : Place) → Follow place fs to → HasLayout layout place → HasLayout layout to
+behind_along layout [] place to h b = subst (HasLayout layout) h b
+behind_along layout (f ∷ fs) place to h b = behind_along layout fs (after place (items.Frame f)) to h.1 (keeps_layout layout place (items.Frame f) h.0 b)
 
 -- ---- kinds and fields
 
-may_stand : (layout : Layout) (place : Place) (f : Frame) → CanFollow place (items.Frame f) → IsBehind layout place
+may_stand : (layout : Layout) (place : Place) (f : Frame) → CanFollow place (items.Frame f) → HasLayout layout place
     → IsFrame layout.format layout.events f → MayStand place (items.Frame f)
 may_stand layout (places.Register other) frames.Register h b fields = tt
 may_stand layout (places.Discover other) frames.Discover h b fields = tt
@@ -55,7 +39,7 @@ may_stand layout (places.Runs other before) (frames.Run r) h b fields =
 may_stand layout (places.Runs other before) frames.Terminate h b fields = tt
 may_stand layout place f h b fields = elim h [ ]
 
-stands : (layout : Layout) (place : Place) (f : Frame) → MayStand place (items.Frame f) → IsBehind layout place
+stands : (layout : Layout) (place : Place) (f : Frame) → MayStand place (items.Frame f) → HasLayout layout place
     → CanFollow place (items.Frame f) × IsFrame layout.format layout.events f
 unfolding IsFrame
 stands layout (places.Register other) frames.Register h b = (tt, tt)
@@ -68,24 +52,24 @@ stands layout place f h b = elim h [ ]
 abbrev AreFrames : Layout → List Frame → Type 0
 AreFrames layout fs = All (IsFrame layout.format layout.events) fs
 
-are_items : (layout : Layout) (fs : List Frame) (place to : Place) → Follow place fs to → IsBehind layout place → AreFrames layout fs
+are_items : (layout : Layout) (fs : List Frame) (place to : Place) → Follow place fs to → HasLayout layout place → AreFrames layout fs
     → AreItems place (map items.Frame fs) to
 are_items layout [] place to h b fields = h
 are_items layout (f ∷ fs) place to h b fields = (
   may_stand layout place f h.0 b (All-head (IsFrame layout.format layout.events) f fs fields),
-  are_items layout fs (after place (items.Frame f)) to h.1 (behind_after layout place f h.0 b)
+  are_items layout fs (after place (items.Frame f)) to h.1 (keeps_layout layout place (items.Frame f) h.0 b)
       (All-tail (IsFrame layout.format layout.events) f fs fields),
 )
 
-follow : (layout : Layout) (fs : List Frame) (place to : Place) → AreItems place (map items.Frame fs) to → IsBehind layout place
+follow : (layout : Layout) (fs : List Frame) (place to : Place) → AreItems place (map items.Frame fs) to → HasLayout layout place
     → Follow place fs to × AreFrames layout fs
 follow layout [] place to h b = (h, All-nil (IsFrame layout.format layout.events))
 follow layout (f ∷ fs) place to h b =
     let s = stands layout place f h.0 b in
-    let i = follow layout fs (after place (items.Frame f)) to h.1 (behind_after layout place f s.0 b) in
+    let i = follow layout fs (after place (items.Frame f)) to h.1 (keeps_layout layout place (items.Frame f) s.0 b) in
     ((s.0, i.0), All-cons (IsFrame layout.format layout.events) f fs s.1 i.1)
 
-one_spelled : (layout : Layout) (place : Place) (f : Frame) → CanFollow place (items.Frame f) → IsBehind layout place
+one_spelled : (layout : Layout) (place : Place) (f : Frame) → CanFollow place (items.Frame f) → HasLayout layout place
     → item_spelling place (items.Frame f) ≡ spelled_frame layout.format f
 one_spelled layout places.Header f h b = absurd b
 one_spelled layout (places.Register other) f h b = ap (λ (l : Layout). spelled_frame l.format f) b
@@ -94,14 +78,14 @@ one_spelled layout (places.Init other) f h b = ap (λ (l : Layout). spelled_fram
 one_spelled layout (places.Runs other before) f h b = ap (λ (l : Layout). spelled_frame l.format f) b
 one_spelled layout places.End f h b = elim h [ ]
 
-all_spelled : (layout : Layout) (fs : List Frame) (place to : Place) → Follow place fs to → IsBehind layout place
+all_spelled : (layout : Layout) (fs : List Frame) (place to : Place) → Follow place fs to → HasLayout layout place
     → items_spelling place (map items.Frame fs) ≡ flat_map (spelled_frame layout.format) fs
 all_spelled layout [] place to h b = refl
 all_spelled layout (f ∷ fs) place to h b =
     let rest = items_spelling (after place (items.Frame f)) (map items.Frame fs) in
     ap (λ (xs : List ℕ). xs ++ rest) (one_spelled layout place f h.0 b)
     ∙ ap (λ (xs : List ℕ). spelled_frame layout.format f ++ xs) (all_spelled layout fs (after place (items.Frame f)) to h.1
-    (behind_after layout place f h.0 b))
+    (keeps_layout layout place (items.Frame f) h.0 b))
     ∙ sym (flat_map-cons (spelled_frame layout.format) f fs)
 
 -- ---- the frames of a run
@@ -180,7 +164,7 @@ follow_append [] more place to end h k = subst (λ (p : Place). Follow p more en
 follow_append (f ∷ fs) more place to end h k = (h.0, follow_append fs more (after place (items.Frame f)) to end h.1 k)
 
 -- from each place after a header some frames end the run
-ends : (layout : Layout) (to : Place) → IsBehind layout to → (fs : List Frame) × Follow to fs places.End
+ends : (layout : Layout) (to : Place) → HasLayout layout to → (fs : List Frame) × Follow to fs places.End
 ends layout places.Header b = absurd b
 ends layout (places.Register other) b =
     (frames.Register ∷ frames.Discover ∷ frames.Init [] ∷ frames.Terminate ∷ [], (tt, (tt, (tt, (tt, refl)))))
@@ -232,3 +216,30 @@ module _ (profile : ProfileValue) (fs : List Frame) (bytes : List ℕ) where
           (b.0, follows_run (layout_of profile) fs b.1),
     );
   }
+
+-- ---- whole records
+
+-- items that are a profile and the frames of a run, and their spelling
+pub record IsWholeRun (xs : List Item) (bytes : List ℕ) : Type 0 where
+  pub profile : ProfileValue
+  pub run : List Frame
+  pub parts : xs ≡ items_of profile run
+  pub spells : SpellsWhole profile run bytes
+
+-- items from the header to the end are such ones
+pub whole_run : (xs : List Item) (bytes : List ℕ) → AreItems places.Header xs places.End → bytes ≡ items_spelling places.Header xs
+    → IsWholeRun xs bytes
+whole_run [] bytes h e = absurd cc
+whole_run (items.Frame f ∷ xs) bytes h e = elim h.0 [ ]
+whole_run (items.Header p ∷ xs) bytes h e =
+    let fs = all_frames (layout_of p) xs (places.Register (layout_of p)) places.End refl h.1 in
+    let after_header = λ (ys : List Item). items.Header p ∷ ys in
+    record {
+      profile = p;
+      run = fs.0;
+      parts = ap after_header fs.1;
+      spells = (in_order p fs.0 bytes).whole.1 (
+        subst (λ (ys : List Item). AreItems places.Header (after_header ys) places.End) fs.1 h,
+        e ∙ ap (λ (ys : List Item). items_spelling places.Header (after_header ys)) fs.1,
+      );
+    }

@@ -1,6 +1,6 @@
 -- Why an item is refused, by the place of the faulty byte.
 use Rattle.std.proofs.Common.{◌≡◌, ℕ, suc, ◌+◌, ◌<◌, ◌≤◌, Bool, true, false, cond, eqb, ltb, List, [], ◌∷◌, length, refl, sym, ap, ◌∙◌}
-use Rattle.std.proofs.Common.{arith, inl, inr, ◌⊎◌}
+use Rattle.std.proofs.Common.{subst, arith, inl, inr, ◌⊎◌}
 use Rattle.det_values.specs.declared.format.Format.{Format}
 use Rattle.det_values.specs.declared.format.Format.TheVariants.{One, Two}
 use Rattle.det_values.specs.declared.frames.Frame.{Frame}
@@ -22,8 +22,7 @@ use Rattle.record_grammar.proofs.Steady.{IsSteady, steady_then, steady_give, got
 use Rattle.record_grammar.proofs.SteadyFields.{number_steady, params_steady, events_steady, init_steady, run_steady}
 use Rattle.record_grammar.proofs.lemmas.record_laws.HeaderParts.{a_profile, from_events, from_params, from_cycle, from_seed, from_job}
 use Rattle.record_grammar.proofs.lemmas.record_laws.HeaderParts.{from_version}
-use Rattle.record_grammar.proofs.lemmas.record_laws.Ranges.{OnlyRange, only_give, only_then, only_number, only_params, only_events}
-use Rattle.record_grammar.proofs.lemmas.record_laws.Ranges.{only_init, only_run}
+use Rattle.record_grammar.proofs.lemmas.record_laws.Ranges.{RefusedFor, job as job_for, init as init_for, run as run_for}
 
 -- ---- a frame is refused at its first byte, or for Range behind it
 
@@ -40,11 +39,14 @@ framed_bad (Bad why n) reason left e =
     let p = bad_is {A = Item} why reason n left e in ap (λ (m : ℕ). bad {A = Frame} why m) p.1
     ∙ ap (λ (w : Reason). bad {A = Frame} w left) p.0
 
+abbrev IsRange : Reason → Type 0
+IsRange reason = reason ≡ Range
+
 -- a reader after the first byte
-says_behind : (bytes : List ℕ) (first : Reason) (r : List ℕ → Read Frame) (reason : Reason) (left : ℕ) → OnlyRange r → IsSteady 0 r
-    → r bytes ≡ Bad reason left → Says bytes first reason left
+says_behind : (bytes : List ℕ) (first : Reason) (r : List ℕ → Read Frame) (reason : Reason) (left : ℕ) → RefusedFor IsRange (r bytes)
+    → IsSteady 0 r → r bytes ≡ Bad reason left → Says bytes first reason left
 says_behind bytes first r reason left h s e =
-    let w : left ≤ 0 + length bytes = s.within bytes reason left e in inr (h.only bytes reason left e, omega arith)
+    let w : left ≤ 0 + length bytes = s.within bytes reason left e in inr (subst (λ (q : Read Frame). RefusedFor IsRange q) e h, omega arith)
 
 says_first : (bytes : List ℕ) (first reason : Reason) (left : ℕ) → bad {A = Frame} first (suc (length bytes)) ≡ Bad reason left
     → Says bytes first reason left
@@ -68,8 +70,8 @@ runs_say : (layout : Layout) (before b : ℕ) (bytes : List ℕ) (reason : Reaso
     → Says bytes (cond four TooMany (tag_reason b)) reason left
 runs_say layout before b bytes reason left true e =
     says_if (ltb before 1000000) bytes TooMany (run_at layout bytes) (bad TooMany (suc (length bytes))) reason left
-    (says_behind bytes TooMany (run_at layout) reason left (only_run layout) (run_steady layout)) (says_first bytes TooMany reason left)
-    e
+    (says_behind bytes TooMany (run_at layout) reason left (run_for IsRange refl layout bytes) (run_steady layout))
+    (says_first bytes TooMany reason left) e
 runs_say layout before b bytes reason left false e = bare_says (eqb b 5) frames.Terminate bytes (tag_reason b) reason left e
 
 tagged_says : (place : Place) (b : ℕ) (bytes : List ℕ) (reason : Reason) (left : ℕ) → tagged_at place b bytes ≡ Bad reason left
@@ -80,7 +82,8 @@ tagged_says (places.Register layout) b bytes reason left e = bare_says (eqb b 1)
 tagged_says (places.Discover layout) b bytes reason left e = bare_says (eqb b 2) frames.Discover bytes (tag_reason b) reason left e
 tagged_says (places.Init layout) b bytes reason left e =
     says_if (eqb b 3) bytes (tag_reason b) (init_at bytes) (bad (tag_reason b) (suc (length bytes))) reason left
-    (says_behind bytes (tag_reason b) init_at reason left only_init init_steady) (says_first bytes (tag_reason b) reason left) e
+    (says_behind bytes (tag_reason b) init_at reason left (init_for IsRange refl bytes) init_steady)
+    (says_first bytes (tag_reason b) reason left) e
 tagged_says (places.Runs layout before) b bytes reason left e = runs_say layout before b bytes reason left (eqb b 4) e
 tagged_says places.End b bytes reason left e = says_first bytes Trailing reason left e
 
@@ -203,16 +206,6 @@ version_field = field_then 1 1 Version (exactly_at Version 0) (λ high. format_a
 
 -- ---- the header
 
-job_only : (format : Format) → OnlyRange (from_job format)
-job_only format =
-    only_then (number 2 0 65535) (from_seed format) (only_number 2 0 65535) (λ job.
-    only_then (number 8 0 18446744073709551615) (from_cycle format job) (only_number 8 0 18446744073709551615) (λ seed.
-    only_then (number 8 1 9223372036854775807) (from_params format job seed) (only_number 8 1 9223372036854775807) (λ cycle.
-    only_then params_at (from_events format job seed cycle) only_params (λ params.
-    only_then (events_at format) (λ events bytes. Got (a_profile format job seed cycle params events, bytes)) (only_events format)
-    (λ events.
-    only_give (a_profile format job seed cycle params events))))))
-
 job_steady : (format : Format) → IsSteady 0 (from_job format)
 job_steady format =
     steady_then 0 (number 2 0 65535) (from_seed format) (number_steady 2 0 65535) (λ job.
@@ -240,7 +233,7 @@ version_says last bytes len reason left l e = elim (bind_bad (version_at bytes) 
   | inr b ↦
       let t : length bytes ≡ 2 + length b.0.1 = version_field.takes bytes b.0 b.1 in
       let w : left ≤ 0 + length b.0.1 = (job_steady b.0.0).within b.0.1 reason left b.2 in
-      behind ((job_only b.0.0).only b.0.1 reason left b.2) (omega arith)
+      behind (subst (λ (q : Read ProfileValue). RefusedFor IsRange q) b.2 (job_for IsRange refl b.0.0 b.0.1)) (omega arith)
 ]
 
 profile_says : (bytes : List ℕ) (reason : Reason) (left : ℕ) → profile_at bytes ≡ Bad reason left → HeaderSays (length bytes) left reason

@@ -16,9 +16,9 @@ use Rattle.record_grammar.specs.Record.{items as items_in, fault_from, ending_at
 use Rattle.record_grammar.specs.Leads.{Leads}
 use Rattle.record_grammar.specs.Spelling.{AreBytes}
 use Rattle.record_grammar.specs.Laws.{AreItems, item_spelling, items_spelling, Begins, AreLongest, IsReason, tag_reason_at, IsDecoded}
-use Rattle.record_grammar.proofs.Steady.{got_is, bad, bad_is}
+use Rattle.record_grammar.proofs.Steady.{got_is}
 use Rattle.record_grammar.proofs.Leads.{item_takes, all_at_more, all_at_bad}
-use Rattle.record_grammar.proofs.lemmas.record_laws.Lawful.{IsRefused, AreBytes-rest, AreBytes-head, AreBytes-tail}
+use Rattle.record_grammar.proofs.lemmas.record_laws.Lawful.{IsRefused, refused_first, AreBytes-rest, AreBytes-head, AreBytes-tail}
 use Rattle.record_grammar.proofs.lemmas.record_laws.LawfulItems.{item_lawful}
 use Rattle.record_grammar.proofs.lemmas.record_laws.OneSpelling.{not_end}
 use Rattle.record_grammar.proofs.lemmas.record_laws.Reasons.{frame_says, header_says, HeaderSays, in_magic, in_version, behind}
@@ -215,17 +215,7 @@ end_refused : (rest : List ℕ) (reason : Reason) (left : ℕ) → item_at place
     → IsRefused (item_at places.End) rest reason left
 unfolding item_at frame_at tagged_at
 end_refused [] reason left e = absurd cc
-end_refused (b ∷ bytes) reason left e =
-    let p = bad_is {A = Item} Trailing reason (suc (length bytes)) left e in
-    record {
-      before = [];
-      byte = b;
-      behind = bytes;
-      parts = refl;
-      counted = sym p.1;
-      goes_on = refl;
-      refused = λ other. ap (λ (r : Reason). bad {A = Item} r (suc (length other))) p.0;
-    }
+end_refused (b ∷ bytes) reason left e = refused_first (item_at places.End) b bytes Trailing reason left refl (λ other. refl) e
 
 refused_at : (to : Place) (rest : List ℕ) (reason : Reason) (left : ℕ) → FewEvents to → AreBytes rest → item_at to rest ≡ Bad reason left
     → IsRefused (item_at to) rest reason left

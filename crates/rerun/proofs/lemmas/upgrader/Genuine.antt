@@ -15,7 +15,7 @@ use Rattle.record_grammar.specs.declared.place.Place.{Place}
 use Rattle.record_grammar.specs.declared.place.Place.TheVariants as places
 use Rattle.rerun.specs.checker.RerunFrames.{input_of, rerun_frame}
 use Rattle.rerun.proofs.lemmas.checker.Departing.{inputs_of}
-use Rattle.rerun.proofs.lemmas.upgrader.Order.{Follow}
+use Rattle.record_grammar.proofs.lemmas.record_laws.Order.{Follow}
 
 abbrev pub as_run : RunFrame → Frame
 as_run run = Run run
