@@ -9,4 +9,5 @@ mod run_plan;
 pub use built_in::demo;
 pub use by_manifest::{RecordTask, record_by_manifest};
 pub(crate) use over_stimulus::stimulus_answer;
-pub use run_plan::plan_run;
+pub use run_plan::RunOptions;
+pub(crate) use run_plan::read_plan;

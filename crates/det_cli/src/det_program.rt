@@ -7,10 +7,10 @@ ghost use Rattle.cli_words.specs.Names.{texts};
 ghost use Rattle.cli_words.specs.Command.{command_value};
 ghost use Rattle.cli_words.specs.Reading.{command_of};
 ghost use Rattle.cli_words.specs.Ranges.{IsInRange};
-ghost use Rattle.probes.specs.Reports.{AudienceState};
 ghost use Rattle.probes.specs.Shows.{seen};
 ghost use Rattle.det_cli.specs.Texts.{command_page, help_text};
 ghost use Rattle.det_cli.specs.Promise.{Runs, Refuses, IsPromised};
+ghost use Rattle.det_cli.specs.Records.{RunsUnseen};
 
 use crate::det_usage::{USAGE, VERSION};
 use crate::pages::{
@@ -167,9 +167,8 @@ fn dispatch_vote<S: Shelf, K: Sink>(
 ) -> Answer
     requires range { IsInRange (command_value command.now) }
     requires word { command.now.word ≡ CommandWord.Vote }
-    ensures { (audience : AudienceState) → Runs (command_value command.now)
-        (S.sees shelf.old) (S.sees shelf.new)
-        (sink_run K.took K.faults out.old out.new) audience audience result }
+    ensures { RunsUnseen (command_value command.now) (S.sees shelf.old) (S.sees shelf.new)
+        (sink_run K.took K.faults out.old out.new) result }
 {
     let copies = command.names.as_slice();
     if command.options.dissent {

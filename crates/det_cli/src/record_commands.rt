@@ -6,16 +6,14 @@ ghost use Rattle.det_io.specs.Traffic.{sink_run};
 ghost use Rattle.manifest.specs.Limits.{IsWorkers};
 ghost use Rattle.cli_words.specs.Command.{command_value};
 ghost use Rattle.cli_words.specs.Ranges.{IsInRange};
-ghost use Rattle.probes.specs.Reports.{AudienceState};
-ghost use Rattle.det_cli.specs.Promise.{Runs};
-ghost use Rattle.det_cli.specs.Records.{writes_record, front_run};
+ghost use Rattle.det_cli.specs.Records.{RunsUnseen, writes_record, front_run};
 
 use cli_answers::Answer;
 use cli_words::{Command, CommandWord, Options};
 use cmd_rerun::replay_command::replay;
 use cmd_rerun::upgrade_command::upgrade;
 use cmd_run::chain_command::{ChainTask, chain};
-use cmd_run::record_command::{RecordTask, demo, record_by_manifest};
+use cmd_run::record_command::{RecordTask, RunOptions, demo, record_by_manifest};
 use det_io::sink_buffer::{Front, Gather, SinkBuffer, Start, buffer_room};
 use det_io::{Shelf, Sink, write_all};
 use shipped_crews::{Host, Workers};
@@ -41,9 +39,8 @@ where
     G: Gate + Send + Sync + 'static,
     requires range { IsInRange (command_value command.now) }
     requires word { writes_record command.now.word ≡ true }
-    ensures { (audience : AudienceState) → Runs (command_value command.now)
-        (S.sees shelf.old) (S.sees shelf.new)
-        (sink_run K.took K.faults out.old out.new) audience audience result }
+    ensures { RunsUnseen (command_value command.now) (S.sees shelf.old) (S.sees shelf.new)
+        (sink_run K.took K.faults out.old out.new) result }
 {
     let Ok(mut room) = buffer_room(host.alloc) else {
         return Answer::OutOfMemory;
@@ -72,12 +69,10 @@ where
     requires word { writes_record command.now.word ≡ true }
     ensures same_sink { result.1.ghost_name ≡ front.entry.sink.ghost_name }
     ensures counted { K.faults front.entry.sink.now ≤ K.faults result.1.now }
-    ensures runs { (audience : AudienceState) → Runs (command_value command.now)
-        (S.sees shelf.old) (S.sees shelf.new)
+    ensures runs { RunsUnseen (command_value command.now) (S.sees shelf.old) (S.sees shelf.new)
         (front_run (K.took front.entry.sink.now) (K.took front.entry.sink.now)
         (K.took result.1.now) front.entry.held.now.items result.2.now.items
-        (K.faults front.entry.sink.now) (K.faults result.1.now))
-        audience audience result.0 }
+        (K.faults front.entry.sink.now) (K.faults result.1.now)) result.0 }
 {
     let (answer, front) = dispatch_to_gatherer::<Front<'a, 'r, K>, Brand, S, R, G>(
         host, command, shelf, front,
@@ -105,10 +100,9 @@ where
     requires faults { P.faults front ≡ B.faults }
     ensures same_sink { P.name result.1 ≡ P.name front }
     ensures counted { P.faults front ≤ P.faults result.1 }
-    ensures runs { (audience : AudienceState) → Runs (command_value command.now)
-        (S.sees shelf.old) (S.sees shelf.new)
+    ensures runs { RunsUnseen (command_value command.now) (S.sees shelf.old) (S.sees shelf.new)
         (front_run B.took (P.took front) (P.took result.1) (P.held front) (P.held result.1)
-        (P.faults front) (P.faults result.1)) audience audience result.0 }
+        (P.faults front) (P.faults result.1)) result.0 }
 {
     let mut buffer = SinkBuffer::<P, B>::new(front);
     let answer = dispatch_record_command(host, command, shelf, &mut buffer);
@@ -129,9 +123,8 @@ where
     G: Gate + Send + Sync + 'static,
     requires range { IsInRange (command_value command.now) }
     requires word { writes_record command.now.word ≡ true }
-    ensures { (audience : AudienceState) → Runs (command_value command.now)
-        (S.sees shelf.old) (S.sees shelf.new)
-        (sink_run K.took K.faults out.old out.new) audience audience result }
+    ensures { RunsUnseen (command_value command.now) (S.sees shelf.old) (S.sees shelf.new)
+        (sink_run K.took K.faults out.old out.new) result }
 {
     let first = command.name(0);
     let second = command.name(1);
@@ -141,59 +134,35 @@ where
         strict,
         ..
     } = command.options;
+    let options = RunOptions {
+        strict,
+        seed,
+        workers,
+    };
     match command.word {
         CommandWord::Demo => demo(host, first, shelf, out),
         CommandWord::Record => {
             let task = RecordTask {
                 manifest: first,
-                strict,
                 stimulus: second,
-                seed,
-                workers,
+                options,
             };
             record_by_manifest(host, &task, shelf, out)
         }
         CommandWord::Replay => replay(&workers_by_option(host, workers), first, shelf, out),
         CommandWord::Upgrade => upgrade(&workers_by_option(host, workers), first, shelf, out),
-        CommandWord::Chain => dispatch_chain(host, command, shelf, out),
+        CommandWord::Chain => {
+            let task = ChainTask {
+                first,
+                second,
+                stimulus: command.name(2),
+                options,
+            };
+            chain(host, &task, shelf, out)
+        }
         // The other commands don't write the record of a run.
         _ => unreachable!(),
     }
-}
-
-/// Runs `chain`, which writes the record of the second client.
-fn dispatch_chain<S, K, R, G>(
-    host: &Host<'_, R, G>,
-    command: &Command<'_>,
-    shelf: &mut S,
-    out: &mut K,
-) -> Answer
-where
-    S: Shelf,
-    K: Sink,
-    R: Threads,
-    G: Gate + Send + Sync + 'static,
-    requires range { IsInRange (command_value command.now) }
-    requires word { command.now.word ≡ CommandWord.Chain }
-    ensures { (audience : AudienceState) → Runs (command_value command.now)
-        (S.sees shelf.old) (S.sees shelf.new)
-        (sink_run K.took K.faults out.old out.new) audience audience result }
-{
-    let Options {
-        workers,
-        seed,
-        strict,
-        ..
-    } = command.options;
-    let task = ChainTask {
-        first: command.name(0),
-        second: command.name(1),
-        strict,
-        stimulus: command.name(2),
-        seed,
-        workers,
-    };
-    chain(host, &task, shelf, out)
 }
 
 /// The workers of a command whose number is given or else 1.

@@ -1,7 +1,7 @@
 -- Runs shown one after another.
-use Rattle.std.proofs.Common.{◌≡◌, List, [], ◌++◌, refl, sym, ap, ◌∙◌, append_assoc, append-nil}
+use Rattle.std.proofs.Common.{◌≡◌, ℕ, List, [], ◌++◌, refl, sym, ap, ◌∙◌, append_assoc, append-nil}
 use Rattle.det_values.specs.declared.frames.RunFrame.{RunFrame}
-use Rattle.probes.specs.Reports.{AudienceState, reported}
+use Rattle.probes.specs.Reports.{ProbeLife, AudienceState, reported, reports, in_turn}
 use Rattle.probes.specs.Shows.{Shows}
 
 pub shows-none : (audience : AudienceState) → Shows audience audience []
@@ -16,3 +16,13 @@ shows-then {first = first} {shown = shown} {more = more} p q = record {
 -- what is reported at last is all that is reported of the runs shown
 pub all-reports : {first last : AudienceState} {runs : List RunFrame} → Shows first last runs → reported last [] ≡ reported first runs
 all-reports {first = first} {runs = runs} h = sym (h.each []) ∙ ap (reported first) (append-nil runs)
+
+none_more : reports [] [] ≡ []
+unfolding reports in_turn
+none_more = refl
+
+-- an audience that gave all its reports reports nothing else
+pub all-told : (last : AudienceState) → last.seeing ≡ [] → reported last [] ≡ last.left
+all-told last none =
+    ap (λ (probes : List ProbeLife). last.left ++ reports probes []) none ∙ ap (λ (more : List ℕ). last.left ++ more) none_more
+    ∙ append-nil last.left

@@ -29,7 +29,7 @@ told-left : (read : List ℕ) (P : List ℕ → Type 0) (left : Option (List ℕ
 told-left read P (Some rest) each = each rest (λ end. end)
 told-left read P None each = tt
 
-told : (before after : ShelfState) (slot : ℕ) (read : List ℕ) (P : List ℕ → Type 0) → Reads before after slot read
+pub told : (before after : ShelfState) (slot : ℕ) (read : List ℕ) (P : List ℕ → Type 0) → Reads before after slot read
     → ((rest : List ℕ) → (IsAtEnd after slot → rest ≡ []) → P (read ++ rest)) → IfSome (before.left slot) P
 told before after slot read P reads each = subst (λ left. IfSome left P) (sym reads.left) (told-left read P (after.left slot) each)
 

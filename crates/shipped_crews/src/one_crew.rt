@@ -1,9 +1,10 @@
 //! `with_crew`: an operation on the run of one shipped job, with a crew for it.
-ghost use Rattle.std.specs.Prelude.{◌≡◌, length, None};
+ghost use Rattle.std.specs.Prelude.{◌≡◌};
 ghost use Rattle.probes.specs.Shows.{seen};
 ghost use Rattle.recorder.specs.run_writer.Recording.{IsNew};
-ghost use Rattle.jobs.specs.Kinds.{bad_param, of_kind};
+ghost use Rattle.jobs.specs.Kinds.{of_kind};
 ghost use Rattle.worker_pool.specs.Crews.{room_name};
+ghost use Rattle.shipped_crews.specs.Runs.{IsGoodRun};
 ghost use Rattle.shipped_crews.specs.Visits.{HasVisited};
 
 use crate::fresh_run::{FreshRun, start_crew};
@@ -85,7 +86,7 @@ where
     K: Sink,
     R: Threads,
     G: Gate + Send + Sync + 'static,
-    requires good { bad_param run.kind run.profile.params (length run.profile.events) ≡ None }
+    requires good { IsGoodRun run.kind run.profile }
     requires can { V.Can visitor run.profile (S.sees shelf.old) }
     ensures { HasVisited S.sees S.stays K.took K.faults (λ shelf sink audience last answer.
         of_kind (λ s g e l p m. V.Gives s g e l p m run.profile visitor

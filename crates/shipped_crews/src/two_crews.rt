@@ -1,9 +1,10 @@
 //! `with_two_crews`: an operation on the runs of two shipped jobs, with a crew for each.
-ghost use Rattle.std.specs.Prelude.{◌≡◌, length, None};
+ghost use Rattle.std.specs.Prelude.{◌≡◌};
 ghost use Rattle.recorder.specs.run_writer.Recording.{IsNew};
-ghost use Rattle.jobs.specs.Kinds.{bad_param, of_kind};
+ghost use Rattle.jobs.specs.Kinds.{of_kind};
 ghost use Rattle.worker_pool.specs.Crews.{room_name};
-ghost use Rattle.shipped_crews.specs.Visits.{HasVisitedTwo};
+ghost use Rattle.shipped_crews.specs.Runs.{IsGoodRun};
+ghost use Rattle.shipped_crews.specs.Visits.{HasVisitedTwo, GivesSecond};
 
 use crate::fresh_run::{FreshRun, start_crew};
 use crate::one_crew::ShippedRun;
@@ -90,14 +91,12 @@ where
     R: Threads,
     G: Gate + Send + Sync + 'static,
     requires first { IsNew A.meaning first.old.recording }
-    requires second { bad_param second.run.kind second.run.profile.params
-        (length second.run.profile.events) ≡ None }
+    requires second { IsGoodRun second.run.kind second.run.profile }
     requires can { V.Can visitor first.old.recording.profile second.run.profile
         (S.sees shelf.old) }
     ensures { HasVisitedTwo S.sees S.stays
-        (λ shelf one two answer. of_kind (λ t h f k q n. V.Gives
-        _ _ _ _ _ A.meaning first.old.recording.profile
-        t h f k q n second.entry.run.profile visitor shelf one two answer) second.entry.run.kind)
+        (GivesSecond (V.Gives _ _ _ _ _ A.meaning first.old.recording.profile)
+        second.entry.run.kind second.entry.run.profile visitor)
         K.took K.faults L.took L.faults shelf.old shelf.new
         first_sink.old first_sink.new second_sink.old second_sink.new result }
 {
@@ -165,13 +164,11 @@ where
     G: Gate + Send + Sync + 'static,
     requires first { IsNew A.meaning first.recording }
     requires room { room_name first.room ≡ N.table }
-    requires second { bad_param second.run.kind second.run.profile.params
-        (length second.run.profile.events) ≡ None }
+    requires second { IsGoodRun second.run.kind second.run.profile }
     requires can { V.Can visitor first.recording.profile second.run.profile (S.sees shelf.old) }
     ensures { HasVisitedTwo S.sees S.stays
-        (λ shelf one two answer. of_kind (λ t h f k q n. V.Gives
-        _ _ _ _ _ A.meaning first.entry.recording.profile
-        t h f k q n second.entry.run.profile visitor shelf one two answer) second.entry.run.kind)
+        (GivesSecond (V.Gives _ _ _ _ _ A.meaning first.entry.recording.profile)
+        second.entry.run.kind second.entry.run.profile visitor)
         K.took K.faults L.took L.faults shelf.old shelf.new
         first_sink.old first_sink.new second_sink.old second_sink.new result }
 {
@@ -212,15 +209,13 @@ where
     L: Sink,
     R: Threads,
     G: Gate + Send + Sync + 'static,
-    requires first { bad_param first.run.kind first.run.profile.params
-        (length first.run.profile.events) ≡ None }
-    requires second { bad_param second.run.kind second.run.profile.params
-        (length second.run.profile.events) ≡ None }
+    requires first { IsGoodRun first.run.kind first.run.profile }
+    requires second { IsGoodRun second.run.kind second.run.profile }
     requires can { V.Can visitor first.run.profile second.run.profile (S.sees shelf.old) }
     ensures { HasVisitedTwo S.sees S.stays
-        (λ shelf one two answer. of_kind (λ s g e l p m. of_kind (λ t h f k q n. V.Gives
-        s g e l p m first.entry.run.profile t h f k q n second.entry.run.profile visitor
-        shelf one two answer) second.entry.run.kind) first.entry.run.kind)
+        (λ shelf one two answer. of_kind (λ s g e l p m. GivesSecond
+        (V.Gives s g e l p m first.entry.run.profile) second.entry.run.kind
+        second.entry.run.profile visitor shelf one two answer) first.entry.run.kind)
         K.took K.faults L.took L.faults shelf.old shelf.new
         first_sink.old first_sink.new second_sink.old second_sink.new result }
 {

@@ -2,6 +2,7 @@
 use Rattle.std.specs.Prelude.{ℕ, Bool, List, [], ◌∷◌, length, Option, Result, Ok, Err}
 use Rattle.std.specs.Option.{unwrap_or}
 use Rattle.det_values.specs.Values.{ProfileValue}
+use Rattle.det_io.specs.Shelf.{ShelfState}
 use Rattle.job.specs.Meaning.{Meaning}
 use Rattle.jobs.specs.Kinds.{by_kind}
 use Rattle.stimulus.specs.Reading.{ending}
@@ -9,7 +10,7 @@ use Rattle.cmd_run.specs.chain.SecondClient.{second_of}
 use Rattle.manifest.specs.Values.{ManifestValue}
 use Rattle.manifest.specs.Profiles.{profile_of}
 use Rattle.cli_answers.specs.declared.answer.BadManifest.{BadManifest}
-use Rattle.cli_answers.specs.Outcome.{Outcome}
+use Rattle.cli_answers.specs.Outcome.{Outcome, known_bytes}
 use Rattle.run_setup.specs.Setup.{setup_of, with_manifest}
 use Rattle.cmd_run.specs.record_command.Outcomes.{answer_to, record_names}
 
@@ -31,6 +32,12 @@ abbrev pub chain_names : (first second stimulus : List ℕ)
     → (judged other : Result ManifestValue BadManifest) → List (List ℕ)
 chain_names first second stimulus (Ok m) other = first ∷ record_names second stimulus other
 chain_names first second stimulus (Err why) other = first ∷ []
+
+-- the same, by what a shelf knows
+abbrev pub chain_opens : ShelfState → (strict : Bool) (first second stimulus : List ℕ)
+    → List (List ℕ)
+chain_opens shelf strict first second stimulus = chain_names first second stimulus
+    (setup_of strict (known_bytes shelf first)) (setup_of strict (known_bytes shelf second))
 
 -- What `chain` gives for two manifests and a stimulus, with seed 0 if there is none. The first
 -- manifest is checked before the second.

@@ -6,6 +6,7 @@ use Rattle.det_values.specs.Values.{ProfileValue}
 use Rattle.det_values.specs.declared.format.Format.TheVariants.{Two}
 use Rattle.det_values.specs.declared.event.Policy.TheVariants.{Last}
 use Rattle.det_values.specs.declared.job_kind.JobKind.{JobKind}
+use Rattle.det_io.specs.Shelf.{ShelfState, AsksPrefix}
 use Rattle.det_io.specs.declared.failure.Stopped.{Stopped}
 use Rattle.det_io.specs.declared.failure.Stopped.TheVariants.{Refused, Failed}
 use Rattle.job.specs.Meaning.{Meaning}
@@ -21,7 +22,7 @@ use Rattle.cli_answers.specs.declared.answer.Answer.{Answer}
 use Rattle.cli_answers.specs.declared.answer.Answer.TheVariants as answers
 use Rattle.cli_answers.specs.Answers.{failed}
 use Rattle.cli_answers.specs.Ends.{Work, reads_nothing}
-use Rattle.cli_answers.specs.Outcome.{Outcome}
+use Rattle.cli_answers.specs.Outcome.{Outcome, KnowsBytes, known_bytes}
 use Rattle.run_setup.specs.Setup.{setup_of, with_manifest}
 
 -- `demo` reads a stimulus, and `record` a manifest as well
@@ -74,6 +75,15 @@ abbrev pub record_names : (manifest stimulus : List ℕ) → Result ManifestValu
     → List (List ℕ)
 record_names manifest stimulus (Ok m) = manifest ∷ stimulus ∷ []
 record_names manifest stimulus (Err why) = manifest ∷ []
+
+-- the same, by what a shelf knows
+abbrev pub record_opens : ShelfState → (strict : Bool) (manifest stimulus : List ℕ) → List (List ℕ)
+record_opens shelf strict manifest stimulus =
+    record_names manifest stimulus (setup_of strict (known_bytes shelf manifest))
+
+-- only these names were opened, if they are known
+abbrev pub OpensOnly : ShelfState → ShelfState → List (List ℕ) → Type 0
+OpensOnly first last names = KnowsBytes first names → AsksPrefix first last names
 
 -- what `record` gives for a manifest and a stimulus, with seed 0 if there is none
 abbrev pub record_outcome : (strict : Bool) (manifest stimulus : List ℕ) → Option ℕ → Outcome

@@ -1,12 +1,12 @@
 //! Opens the stimulus of a chain and runs both clients over it.
-ghost use Rattle.std.specs.Prelude.{◌≡◌, ◌∷◌, [], IsSome, None, length, true};
+ghost use Rattle.std.specs.Prelude.{◌≡◌, ◌∷◌, [], IsSome, true};
 ghost use Rattle.det_io.specs.Count.{Rose};
 ghost use Rattle.det_io.specs.Shelf.{AsksPrefix};
 ghost use Rattle.det_io.specs.Traffic.{sink_run};
-ghost use Rattle.jobs.specs.Kinds.{bad_param};
 ghost use Rattle.cli_answers.specs.Ends.{can_end};
 ghost use Rattle.cli_answers.specs.Outcome.{Meets, known_bytes};
 ghost use Rattle.cli_answers.specs.Slots.{KeepsSlots};
+ghost use Rattle.shipped_crews.specs.Runs.{IsGoodRun};
 ghost use Rattle.cmd_run.specs.record_command.Outcomes.{demo_work};
 ghost use Rattle.cmd_run.specs.chain_command.Clients.{chained_by_kinds};
 
@@ -32,10 +32,8 @@ where
     K: Sink,
     R: Threads,
     G: Gate + Send + Sync + 'static,
-    requires first { bad_param first.run.kind first.run.profile.params
-        (length first.run.profile.events) ≡ None }
-    requires second { bad_param second.run.kind second.run.profile.params
-        (length second.run.profile.events) ≡ None }
+    requires first { IsGoodRun first.run.kind first.run.profile }
+    requires second { IsGoodRun second.run.kind second.run.profile }
     ensures meets { Meets
         (chained_by_kinds
         (record { kind = first.entry.run.kind; profile = first.entry.run.profile })

@@ -1,4 +1,4 @@
-//! The command `record`: reads the manifest and plans its run.
+//! The command `record`: the record of a manifest's profile.
 ghost use Rattle.std.specs.Prelude.{◌≡◌, ◌∷◌, [], IfSome, true};
 ghost use Rattle.det_io.specs.Count.{Rose};
 ghost use Rattle.det_io.specs.Shelf.{AsksPrefix};
@@ -7,14 +7,13 @@ ghost use Rattle.manifest.specs.Limits.{IsWorkers};
 ghost use Rattle.cli_answers.specs.Ends.{can_end};
 ghost use Rattle.cli_answers.specs.Outcome.{Meets, KnowsBytes, known_bytes};
 ghost use Rattle.cli_answers.specs.Slots.{KeepsSlots};
-ghost use Rattle.run_setup.specs.Setup.{setup_of};
-ghost use Rattle.cmd_run.specs.record_command.Outcomes.{record_names, record_outcome, record_work};
+ghost use Rattle.cmd_run.specs.record_command.Outcomes.{OpensOnly, record_opens};
+ghost use Rattle.cmd_run.specs.record_command.Outcomes.{record_outcome, record_work};
 
 use crate::record_command::over_stimulus::record_named_stimulus;
-use crate::record_command::run_plan::plan_run;
+use crate::record_command::run_plan::{RunOptions, read_plan};
 use cli_answers::Answer;
 use det_io::{Shelf, Sink};
-use run_setup::read_setup;
 use shipped_crews::{Host, PlannedRun};
 use std::thread::Threads;
 use worker_pool::Gate;
@@ -24,14 +23,9 @@ use worker_pool::Gate;
 pub struct RecordTask<'t> {
     /// The name of the manifest.
     pub manifest: &'t str,
-    /// Whether a key that no table of a manifest knows is a fault.
-    pub strict: bool,
     /// The name of the stimulus.
     pub stimulus: &'t str,
-    /// The seed. 0 if there is none.
-    pub seed: Option<u64>,
-    /// The number of workers. If there is none, the one in the manifest.
-    pub workers: Option<u32>,
+    pub options: RunOptions,
 }
 
 /// Writes the record of a manifest's profile over a stimulus. The manifest is read and checked
@@ -47,31 +41,26 @@ where
     K: Sink,
     R: Threads,
     G: Gate + Send + Sync + 'static,
-    requires workers { IfSome task.now.workers IsWorkers }
+    requires workers { IfSome task.now.options.workers IsWorkers }
     ensures meets { Meets
-        (record_outcome task.now.strict (known_bytes (S.sees shelf.old) task.now.manifest.now)
-        (known_bytes (S.sees shelf.old) task.now.stimulus.now) task.now.seed)
-        (KnowsBytes (S.sees shelf.old) (record_names task.now.manifest.now task.now.stimulus.now
-        (setup_of task.now.strict (known_bytes (S.sees shelf.old) task.now.manifest.now))))
+        (record_outcome task.now.options.strict
+        (known_bytes (S.sees shelf.old) task.now.manifest.now)
+        (known_bytes (S.sees shelf.old) task.now.stimulus.now) task.now.options.seed)
+        (KnowsBytes (S.sees shelf.old) (record_opens (S.sees shelf.old) task.now.options.strict
+        task.now.manifest.now task.now.stimulus.now))
         (Rose (S.sees shelf.old).faults (S.sees shelf.new).faults)
         (sink_run K.took K.faults out.old out.new) result }
     ensures ends { can_end record_work result ≡ true }
     ensures asked { AsksPrefix (S.sees shelf.old) (S.sees shelf.new)
         (task.now.manifest.now ∷ task.now.stimulus.now ∷ []) }
     ensures earlier { KeepsSlots (S.sees shelf.old) (S.sees shelf.new) }
-    ensures judged { KnowsBytes (S.sees shelf.old)
-        (record_names task.now.manifest.now task.now.stimulus.now
-        (setup_of task.now.strict (known_bytes (S.sees shelf.old) task.now.manifest.now)))
-        → AsksPrefix (S.sees shelf.old) (S.sees shelf.new)
-        (record_names task.now.manifest.now task.now.stimulus.now
-        (setup_of task.now.strict (known_bytes (S.sees shelf.old) task.now.manifest.now))) }
+    ensures judged { OpensOnly (S.sees shelf.old) (S.sees shelf.new)
+        (record_opens (S.sees shelf.old) task.now.options.strict task.now.manifest.now
+        task.now.stimulus.now) }
 {
-    let setup = match read_setup(host.alloc, task.manifest, task.strict, shelf) {
-        Ok(setup) => setup,
+    let client = match read_plan(host, task.manifest, &task.options, shelf) {
+        Ok(client) => client,
         Err(end) => return Answer::from(end),
-    };
-    let Ok(client) = plan_run(host, &setup, task.seed, task.workers) else {
-        return Answer::OutOfMemory;
     };
     let PlannedRun { run, workers } = client;
     record_named_stimulus(&workers, run, task.stimulus, shelf, out)

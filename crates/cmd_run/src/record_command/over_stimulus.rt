@@ -1,12 +1,12 @@
 //! Opens the stimulus of a record and runs a shipped job over it.
-ghost use Rattle.std.specs.Prelude.{◌≡◌, ◌∷◌, [], IsSome, None, length, true};
+ghost use Rattle.std.specs.Prelude.{◌≡◌, ◌∷◌, [], IsSome, true};
 ghost use Rattle.det_io.specs.Count.{Rose};
 ghost use Rattle.det_io.specs.Shelf.{AsksPrefix};
 ghost use Rattle.det_io.specs.Traffic.{sink_run};
-ghost use Rattle.jobs.specs.Kinds.{bad_param};
 ghost use Rattle.cli_answers.specs.Ends.{can_end};
 ghost use Rattle.cli_answers.specs.Outcome.{Meets, known_bytes};
 ghost use Rattle.cli_answers.specs.Slots.{KeepsSlots};
+ghost use Rattle.shipped_crews.specs.Runs.{IsGoodRun};
 ghost use Rattle.cmd_run.specs.record_command.Outcomes.{demo_work, recorded_by_kind};
 ghost use Rattle.cmd_run.specs.record_command.Outcomes.{stimulus_answer};
 
@@ -44,7 +44,7 @@ where
     K: Sink,
     R: Threads,
     G: Gate + Send + Sync + 'static,
-    requires good { bad_param run.kind run.profile.params (length run.profile.events) ≡ None }
+    requires good { IsGoodRun run.kind run.profile }
     ensures meets { Meets
         (recorded_by_kind run.kind run.profile (known_bytes (S.sees shelf.old) stimulus.now))
         (IsSome ((S.sees shelf.old).holds stimulus.now))

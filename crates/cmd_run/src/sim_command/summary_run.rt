@@ -1,9 +1,10 @@
 //! Runs a shipped job over a text in memory, and sums up the record without keeping it.
-ghost use Rattle.std.specs.Prelude.{◌≡◌, [], length, None, Ok, OnOk, IfOk, IfErr};
+ghost use Rattle.std.specs.Prelude.{◌≡◌, [], length, Ok, OnOk, IfOk, IfErr};
 ghost use Rattle.stimulus.specs.Reading.{Terminated, ending};
 ghost use Rattle.probes.specs.Reports.{reported};
 ghost use Rattle.probes.specs.Shows.{seen};
-ghost use Rattle.jobs.specs.Kinds.{bad_param, by_kind};
+ghost use Rattle.jobs.specs.Kinds.{by_kind};
+ghost use Rattle.shipped_crews.specs.Runs.{IsGoodRun};
 ghost use Rattle.cmd_run.specs.sim_command.Sim.{runs_over, summary_over};
 
 use crate::stimulus_visit::StimulusIn;
@@ -42,7 +43,7 @@ pub(crate) fn summarize_run<R, G>(
 where
     R: Threads,
     G: Gate + Send + Sync + 'static,
-    requires good { bad_param run.kind run.profile.params (length run.profile.events) ≡ None }
+    requires good { IsGoodRun run.kind run.profile }
     requires whole { ending (length run.profile.events) text ≡ Terminated }
     ensures summary { IfOk result (λ summary.
         summary ≡ by_kind (λ s g e l p m. summary_over m run.profile text number) run.kind) }

@@ -1,5 +1,5 @@
 -- What an audience has seen of a record that was checked.
-use Rattle.std.proofs.Common.{◌≡◌, ◌≢◌, ℕ, List, [], ◌∷◌, ◌++◌, refl, sym, ap, subst, ◌∙◌, append-nil}
+use Rattle.std.proofs.Common.{◌≡◌, ◌≢◌, ℕ, List, [], ◌∷◌, ◌++◌, refl, sym, subst, ◌∙◌}
 use Rattle.std.specs.Prelude.{Some, Result, Ok, Err}
 use Rattle.det_values.specs.Values.{ProfileValue}
 use Rattle.det_values.specs.declared.frames.RunFrame.{RunFrame}
@@ -16,7 +16,8 @@ use Rattle.record_grammar.specs.declared.record_fault.RecordFault.{RecordFault}
 use Rattle.record_grammar.specs.declared.item.Item.TheVariants.{Header}
 use Rattle.record_reader.specs.declared.frame_reader.FrameReader.{FrameReader}
 use Rattle.record_reader.specs.Frames.{StandsFor, slot_of}
-use Rattle.probes.specs.Reports.{ProbeLife, AudienceState, reported, reports, in_turn}
+use Rattle.probes.specs.Reports.{AudienceState, reported}
+use Rattle.probes.proofs.Shown.{all-told}
 use Rattle.probes.specs.Shows.{SawRuns}
 use Rattle.rerun.specs.declared.checker.check_verdict.CheckVerdict.{CheckVerdict}
 use Rattle.rerun.specs.checker.Departure.{checked_runs}
@@ -37,16 +38,6 @@ use Rattle.cmd_rerun.proofs.lemmas.check_command.Meeting.{answers, no-write}
 -- nobody was shown anything
 pub saw-none : (audience : AudienceState) (runs : List RunFrame) → SawFirst audience audience runs
 saw-none audience runs = record { seen = []; first = prefix-none runs; saw = refl }
-
-none_more : reports [] [] ≡ []
-unfolding reports in_turn
-none_more = refl
-
--- an audience that gave all its reports reports nothing else
-all-told : (last : AudienceState) → last.seeing ≡ [] → reported last [] ≡ last.left
-all-told last none =
-    ap (λ (probes : List ProbeLife). last.left ++ reports probes []) none ∙ ap (λ (more : List ℕ). last.left ++ more) none_more
-    ∙ append-nil last.left
 
 module _ {S G E L P : Type 0} (m : Meaning S G E L P) (profile : ProfileValue) (frames : FrameReader) (read : List ℕ)
     (stands : StandsFor frames read (Header profile ∷ [])) (shelf : ShelfRun) (sink : SinkRun) (old now : AudienceState) where

@@ -5,7 +5,7 @@ use Rattle.det_values.specs.Values.{ProfileValue}
 use Rattle.det_values.specs.declared.frames.CycleInput.{CycleInput}
 use Rattle.det_io.specs.Sink.{Grew}
 use Rattle.det_io.specs.Shelf.{ShelfState, Reads, IsAtEnd}
-use Rattle.det_io.specs.Traffic.{ShelfRun, ShelfTraffic, failure_in}
+use Rattle.det_io.specs.Traffic.{ShelfRun, ShelfTraffic, shelf_run, failure_in}
 use Rattle.det_io.specs.declared.failure.Failure.{Failure}
 use Rattle.det_io.specs.declared.failure.Failure.TheVariants.{Read, Write, OutOfMemory}
 use Rattle.det_io.specs.declared.failure.Stopped.{Stopped}
@@ -162,12 +162,12 @@ pub unfailed-sinks : (sinks : Sinks) → sinks.first.faults_before ≤ sinks.fir
 unfailed-sinks sinks one two = record { cause = λ e. cc; first = one; second = two }
 
 -- nothing failed before
-pub shelf-then : (failure : Option Failure) (first mid last : ShelfState) (earlier later stays : Type 0)
-    → ShelfTraffic (record { first = first; last = mid; stays = earlier }) None
-    → ShelfTraffic (record { first = mid; last = last; stays = later }) failure → stays
-    → ShelfTraffic (record { first = first; last = last; stays = stays }) failure
-shelf-then failure first mid last earlier later stays a b same = record {
-  cause = λ e. rose-before first.faults mid.faults last.faults a.counted (b.cause e);
+pub shelf-then : {S : Type 0} (sees : S → ShelfState) (stays : S → S → Type 0)
+    → ((one two three : S) → stays one two → stays two three → stays one three) → (first mid last : S) (failure : Option Failure)
+    → ShelfTraffic (shelf_run sees stays first mid) None → ShelfTraffic (shelf_run sees stays mid last) failure
+    → ShelfTraffic (shelf_run sees stays first last) failure
+shelf-then sees stays on first mid last failure a b = record {
+  cause = λ e. rose-before (sees first).faults (sees mid).faults (sees last).faults a.counted (b.cause e);
   counted = let one = a.counted in let two = b.counted in omega arith;
-  stays = same;
+  stays = on first mid last a.stays b.stays;
 }

@@ -2,6 +2,7 @@
 use Rattle.std.proofs.Common.{◌≡◌, ℕ, List, refl, sym, ap, inl, inr}
 use Rattle.std.specs.Prelude.{◌⊎◌, Some, Result, Ok, Err}
 use Rattle.det_values.specs.Values.{ProfileValue}
+use Rattle.det_values.specs.declared.job_kind.JobKind.{JobKind}
 use Rattle.det_io.specs.Count.{Rose}
 use Rattle.det_io.specs.Traffic.{ShelfRun, SinkRun}
 use Rattle.det_io.specs.declared.failure.Failure.TheVariants.{Read, Write, OutOfMemory}
@@ -77,14 +78,12 @@ module _ (text : List ℕ) (slot : ℕ) (shelf : ShelfRun) (one out : SinkRun) (
         (λ wanted. Meets wanted is_known rose out (stimulus_answer result))
         (λ T H F M Q n has. met-chained m first.profile n second.profile result has) second.kind) first.kind visited)
 
-pub reads-by-kinds : (slot : ℕ) (shelf : ShelfRun) (one out : SinkRun) (first second : Client)
+pub reads-by-kinds : (slot : ℕ) (shelf : ShelfRun) (one out : SinkRun) (kind other : JobKind) (first second : ProfileValue)
     (result : Result ChainCounts (Stopped StimulusFault))
-    → of_kind (λ S G E L P m. of_kind (λ T H F M Q n.
-    HasChained m first.profile n second.profile slot shelf one out result) second.kind) first.kind
+    → of_kind (λ S G E L P m. of_kind (λ T H F M Q n. HasChained m first n second slot shelf one out result) other) kind
     → ReadsOf shelf slot
-reads-by-kinds slot shelf one out first second result visited =
-    of_kind-gives
-    (λ S G E L P m. of_kind (λ T H F M Q n. HasChained m first.profile n second.profile slot shelf one out result) second.kind)
+reads-by-kinds slot shelf one out kind other first second result visited =
+    of_kind-gives (λ S G E L P m. of_kind (λ T H F M Q n. HasChained m first n second slot shelf one out result) other)
     (ReadsOf shelf slot)
-    (λ S G E L P m. of_kind-gives (λ T H F M Q n. HasChained m first.profile n second.profile slot shelf one out result)
-    (ReadsOf shelf slot) (λ T H F M Q n has. let run = has.chained.run in (run.0, run.1)) second.kind) first.kind visited
+    (λ S G E L P m. of_kind-gives (λ T H F M Q n. HasChained m first n second slot shelf one out result)
+    (ReadsOf shelf slot) (λ T H F M Q n has. let run = has.chained.run in (run.0, run.1)) other) kind visited

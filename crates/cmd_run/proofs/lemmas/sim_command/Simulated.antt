@@ -1,5 +1,5 @@
 -- The result of the run of `sim`.
-use Rattle.std.proofs.Common.{◌≡◌, ℕ, List, [], ◌++◌, length, refl, sym, ap, ◌∙◌, subst, append-nil}
+use Rattle.std.proofs.Common.{◌≡◌, ℕ, List, [], ◌++◌, length, sym, ap, ◌∙◌, subst}
 use Rattle.std.specs.Prelude.{None, Result, Ok, Err, IfOk, OnOk}
 use Rattle.det_io.specs.Sink.{Grew, GrewByPrefix}
 use Rattle.det_io.specs.Traffic.{SinkRun}
@@ -7,7 +7,8 @@ use Rattle.det_values.specs.Values.{ProfileValue}
 use Rattle.jobs.specs.cloud.Meaning.{meaning}
 use Rattle.stimulus.specs.GeneratedText.{made}
 use Rattle.stimulus.specs.Reading.{Terminated, ending}
-use Rattle.probes.specs.Reports.{ProbeLife, AudienceState, reported, reports, in_turn}
+use Rattle.probes.specs.Reports.{AudienceState, reported}
+use Rattle.probes.proofs.Shown.{all-told}
 use Rattle.record_text.specs.Summaries.{summary_lines}
 use Rattle.record_text.specs.declared.summary_lines.Summary.{Summary}
 use Rattle.cli_answers.specs.declared.answer.Answer.TheVariants.{Done, WriteFault}
@@ -35,16 +36,6 @@ module _ (number : ℕ) (p : ProfileValue) (is : p ≡ sim_profile number) where
       all ∙ (λ i. summary_lines (sum i) ++ report i) ∙
       (λ i. summary_lines (summary_over meaning (is i) (same i) number) ++ reported audience (runs_over meaning (is i) (same i)))
   text-is items (Err e) audience text told summary same sum report all = tt
-
-none_more : reports [] [] ≡ []
-unfolding reports in_turn
-none_more = refl
-
--- an audience that gave all its reports reports nothing else
-all-told : (last : AudienceState) → last.seeing ≡ [] → reported last [] ≡ last.left
-all-told last none =
-    ap (λ (probes : List ProbeLife). last.left ++ reports probes []) none ∙ ap (λ (more : List ℕ). last.left ++ more) none_more
-    ∙ append-nil last.left
 
 -- it has seen all runs of the cloud
 pub saw-all : {T F : Type 0} (lines : Result T F) (number : ℕ) (p : ProfileValue) → p ≡ sim_profile number

@@ -10,18 +10,17 @@ use Rattle.det_cli.proofs.Helping.{help-there}
 use Rattle.det_cli.proofs.Joining.{same-command, sole-name, no-name, workers-fit, is-kept, is-gone, no-difference, help-is}
 use Rattle.det_cli.proofs.Joining.{runs-command, reported-runs}
 use Rattle.det_cli.proofs.Joining.{same-reports, names-enough}
-use Rattle.det_cli.proofs.Plain.{plain-command}
+use Rattle.det_cli.proofs.Plain.{plain-command, plain-sole, runs-quiet}
 use Rattle.det_cli.proofs.ThroughBuffer.{record-of}
 use Rattle.det_cli.proofs.det_program.dispatch_command.Goals as goal
 
 pub returns-in-Needs : goal.returns-in-Needs
 returns-in-Needs g c =
     let seen = command_value c.args.command in
-    let is = sole-name seen words.Needs c.requires.range c.in-Needs.is refl refl c.name-first.result.now c.name-first.ensures in
-    let asked = asks-all _ _ _ c.needs.ensures.asked in
-    plain-command seen words.Needs (c.name-first.result.now ∷ []) c.in-Needs.is is _ _ _ _ _ refl
-    (meets-under _ _ _ _ _ _ _ (λ t. t 0 c.name-first.result.now (omega arith)) (λ r. r) c.needs.ensures.meets) c.needs.ensures.ends
-    asked (λ t. asked) c.needs.ensures.earlier
+    let name = c.name-first.result.now in
+    plain-sole seen words.Needs c.requires.range c.in-Needs.is name c.name-first.ensures _ _ _ _ _ refl refl refl
+    (meets-under _ _ _ _ _ _ _ (λ t. t 0 name (omega arith)) (λ r. r) c.needs.ensures.meets) c.needs.ensures.ends
+    (asks-all _ _ _ c.needs.ensures.asked) refl c.needs.ensures.earlier
 
 pub returns-in-Show : goal.returns-in-Show
 returns-in-Show g c =
@@ -159,17 +158,9 @@ returns-else-command g c =
     let names = c.name-first.result.now ∷ [] in
     let is = sole-name seen words.Salvage c.requires.range c.in-Salvage.is refl refl c.name-first.result.now c.name-first.ensures in
     runs-command (g.S.Slots.sees c.args.shelf.now) _ _ _ _ _ seen _
-    (same-reports seen words.Salvage names false c.in-Salvage.is is c.if-command.false) (record {
-      meets = c.salvage.ensures.meets;
-      broken = λ t e. c.salvage.ensures.broken e t;
-      ends = c.salvage.ensures.ends;
-      asked = c.salvage.ensures.asked;
-      needed = λ t. c.salvage.ensures.asked;
-      earlier = c.salvage.ensures.earlier;
-      left = λ e. refl;
-      gone = λ e. absurd cc;
-      saw = λ t ne e. absurd cc;
-    })
+    (same-reports seen words.Salvage names false c.in-Salvage.is is c.if-command.false)
+    (runs-quiet (record { broken = λ t e. c.salvage.ensures.broken e t; hidden = refl; seen = λ holds audience e. absurd cc })
+    c.salvage.ensures.meets c.salvage.ensures.ends c.salvage.ensures.asked (λ t. c.salvage.ensures.asked) c.salvage.ensures.earlier)
 
 pub dispatch_gathered-requires-clause-word : goal.dispatch_gathered-requires-clause-word
 dispatch_gathered-requires-clause-word g c = λ lifetimes bounds. record-of c.args.command.word c.in-Demo.is

@@ -3,6 +3,7 @@ use Rattle.std.specs.Prelude.{true, false}
 use Rattle.cli_words.specs.declared.table.CommandWord.TheVariants as words
 use Rattle.cli_words.specs.Command.{command_value}
 use Rattle.det_cli.proofs.Joining.{same-dissent, names-enough, names-few, runs-command}
+use Rattle.det_cli.proofs.Plain.{runs-quiet}
 use Rattle.det_cli.proofs.det_program.dispatch_vote.Goals as goal
 
 pub vote_dissent-requires-clause-some : goal.vote_dissent-requires-clause-some
@@ -27,34 +28,16 @@ vote-requires-clause-few g c =
 
 pub returns-then-command : goal.returns-then-command
 returns-then-command g c audience =
-    let seen = command_value c.args.command.now in
-    let names = c.as_slice-copies.ensures.names in
-    runs-command (g.S.Slots.sees c.args.shelf.now) _ _ _ _ _ seen _
-    (same-dissent seen words.Vote _ true c.requires.word (sym names) c.if-command.true) (record {
-      meets = c.vote_dissent.ensures.meets;
-      broken = λ t e. c.vote_dissent.ensures.broken e;
-      ends = c.vote_dissent.ensures.ends;
-      asked = c.vote_dissent.ensures.asked;
-      needed = λ t. c.vote_dissent.ensures.asked;
-      earlier = c.vote_dissent.ensures.earlier;
-      left = λ e. refl;
-      gone = λ e. absurd cc;
-      saw = λ t ne. tt;
-    })
+    let told = c.vote_dissent.ensures in
+    runs-command (g.S.Slots.sees c.args.shelf.now) _ _ _ _ _ (command_value c.args.command.now) _
+    (same-dissent _ words.Vote _ true c.requires.word (sym c.as_slice-copies.ensures.names) c.if-command.true)
+    (runs-quiet (record { broken = λ t e. told.broken e; hidden = refl; seen = λ holds audience. tt }) told.meets told.ends
+    told.asked (λ t. told.asked) told.earlier)
 
 pub returns : goal.returns
 returns g c audience =
-    let seen = command_value c.args.command.now in
-    let names = c.as_slice-copies.ensures.names in
-    runs-command (g.S.Slots.sees c.args.shelf.now) _ _ _ _ _ seen _
-    (same-dissent seen words.Vote _ false c.requires.word (sym names) c.if-command.false) (record {
-      meets = c.vote.ensures.meets;
-      broken = λ t e. c.vote.ensures.broken e t;
-      ends = c.vote.ensures.ends;
-      asked = c.vote.ensures.asked;
-      needed = λ t. c.vote.ensures.asked;
-      earlier = c.vote.ensures.earlier;
-      left = λ e. refl;
-      gone = λ e. absurd cc;
-      saw = λ t ne. tt;
-    })
+    let told = c.vote.ensures in
+    runs-command (g.S.Slots.sees c.args.shelf.now) _ _ _ _ _ (command_value c.args.command.now) _
+    (same-dissent _ words.Vote _ false c.requires.word (sym c.as_slice-copies.ensures.names) c.if-command.false)
+    (runs-quiet (record { broken = λ t e. told.broken e t; hidden = refl; seen = λ holds audience. tt }) told.meets told.ends
+    told.asked (λ t. told.asked) told.earlier)

@@ -1,8 +1,8 @@
 use Rattle.std.proofs.Common.{[], ◌∷◌, refl, rules}
 use Rattle.cli_words.specs.declared.table.CommandWord.TheVariants as words
 use Rattle.cli_words.specs.Command.{command_value}
-use Rattle.det_cli.proofs.Joining.{sole-name, both-names, workers-fit}
-use Rattle.det_cli.proofs.Plain.{plain-command}
+use Rattle.det_cli.proofs.Joining.{both-names, all-names, workers-fit}
+use Rattle.det_cli.proofs.Plain.{plain-command, plain-sole}
 use Rattle.det_cli.proofs.ThroughBuffer.{other-word}
 use Rattle.det_cli.proofs.record_commands.dispatch_record_command.Goals as goal
 
@@ -12,10 +12,9 @@ record_by_manifest-requires g c =
 
 pub returns-in-Demo : goal.returns-in-Demo
 returns-in-Demo g c audience =
-    let seen = command_value c.args.command.now in
-    let is = sole-name seen words.Demo c.requires.range c.in-Demo.is refl refl c.name-first.result.now c.name-first.ensures in
-    plain-command seen words.Demo (c.name-first.result.now ∷ []) c.in-Demo.is is _ _ _ audience _ refl
-    c.demo.ensures.meets c.demo.ensures.ends c.demo.ensures.asked (λ t. c.demo.ensures.asked) c.demo.ensures.earlier
+    let told = c.demo.ensures in
+    plain-sole (command_value c.args.command.now) words.Demo c.requires.range c.in-Demo.is c.name-first.result.now c.name-first.ensures
+    _ _ _ audience _ refl refl refl told.meets told.ends told.asked refl told.earlier
 
 pub returns-in-Record : goal.returns-in-Record
 returns-in-Record g c audience =
@@ -30,17 +29,15 @@ returns-in-Record g c audience =
 
 pub returns-in-Replay : goal.returns-in-Replay
 returns-in-Replay g c audience =
-    let seen = command_value c.args.command.now in
-    let is = sole-name seen words.Replay c.requires.range c.in-Replay.is refl refl c.name-first.result.now c.name-first.ensures in
-    plain-command seen words.Replay (c.name-first.result.now ∷ []) c.in-Replay.is is _ _ _ audience _ refl
-    c.replay.ensures.meets c.replay.ensures.ends c.replay.ensures.asked (λ t. c.replay.ensures.asked) c.replay.ensures.earlier
+    let told = c.replay.ensures in
+    plain-sole (command_value c.args.command.now) words.Replay c.requires.range c.in-Replay.is c.name-first.result.now c.name-first.ensures
+    _ _ _ audience _ refl refl refl told.meets told.ends told.asked refl told.earlier
 
 pub returns-in-Upgrade : goal.returns-in-Upgrade
 returns-in-Upgrade g c audience =
-    let seen = command_value c.args.command.now in
-    let is = sole-name seen words.Upgrade c.requires.range c.in-Upgrade.is refl refl c.name-first.result.now c.name-first.ensures in
-    plain-command seen words.Upgrade (c.name-first.result.now ∷ []) c.in-Upgrade.is is _ _ _ audience _ refl
-    c.upgrade.ensures.meets c.upgrade.ensures.ends c.upgrade.ensures.asked (λ t. c.upgrade.ensures.asked) c.upgrade.ensures.earlier
+    let told = c.upgrade.ensures in
+    plain-sole (command_value c.args.command.now) words.Upgrade c.requires.range c.in-Upgrade.is c.name-first.result.now c.name-first.ensures
+    _ _ _ audience _ refl refl refl told.meets told.ends told.asked refl told.earlier
 
 pub workers_by_option-requires : goal.workers_by_option-requires
 workers_by_option-requires g c = workers-fit (command_value c.args.command.now) c.requires.range
@@ -48,8 +45,21 @@ workers_by_option-requires g c = workers-fit (command_value c.args.command.now) 
 pub workers_by_option-requires-in-Upgrade : goal.workers_by_option-requires-in-Upgrade
 workers_by_option-requires-in-Upgrade g c = workers-fit (command_value c.args.command.now) c.requires.range
 
+pub chain-requires : goal.chain-requires
+chain-requires g c =
+    let workers = workers-fit (command_value c.args.command.now) c.requires.range in search (rules, workers)
+
 pub returns-in-Chain : goal.returns-in-Chain
-returns-in-Chain g c = c.dispatch_chain.ensures
+returns-in-Chain g c audience =
+    let seen = command_value c.args.command.now in
+    let first = c.name-first.result.now in
+    let second = c.name-second.result.now in
+    let stimulus = c.name.result.now in
+    let is = all-names seen words.Chain c.requires.range c.in-Chain.is refl refl first second stimulus c.name-first.ensures
+    c.name-second.ensures c.name.ensures in
+    let told = c.chain.ensures in
+    plain-command seen words.Chain (first ∷ second ∷ stimulus ∷ []) c.in-Chain.is is _ _ _ audience _ refl told.meets told.ends
+    told.asked told.judged told.earlier
 
 pub unreachable-requires : goal.unreachable-requires
 unreachable-requires g c = other-word c.args.command.now.word c.requires.word c.in_default.not-Demo c.in_default.not-Record

@@ -63,10 +63,8 @@ returns-in_err-input-clause-chained g c =
 pub returns-in_err-input-clause-shelf_traffic : goal.returns-in_err-input-clause-shelf_traffic
 returns-in_err-input-clause-shelf_traffic g c =
     let p = err_from_is_err_and c.from_residual-in_err-input.result c.from_residual-in_err-input.ensures.1 in
-    rw (p.1, p.2) (shelf-then _ (g.S.Slots.sees c.args.shelf.now) (g.S.Slots.sees c.cycles.shelf)
-    (g.S.Slots.sees c.next_input.new.shelf) _ _ _
-    c.cycles.invariant.shelf_traffic c.in_err-input.ensures.traffic
-    (g.met.S.Slots.stays_on _ _ _ c.cycles.invariant.shelf_traffic.stays c.in_err-input.ensures.traffic.stays))
+    rw (p.1, p.2) (shelf-then g.S.Slots.sees g.S.Slots.stays g.met.S.Slots.stays_on _ _ _ _ c.cycles.invariant.shelf_traffic
+    c.in_err-input.ensures.traffic)
 
 pub returns-in_err-input-clause-write_fault : goal.returns-in_err-input-clause-write_fault
 returns-in_err-input-clause-write_fault g c =
@@ -117,9 +115,9 @@ returns-in_err-spare-clause-shelf_traffic g c =
     let running = c.cycles.invariant.running in
     let shelf = shelf_run g.S.Slots.sees g.S.Slots.stays c.args.shelf.now c.next_input.new.shelf in
     let cut = c.in_err-spare.ensures.cut running.1 running.2.stands in
-    rw (p.1, p.2) (no-read c.in_err-spare.field-0.0 shelf cut.cause (unfailed-shelf shelf
-    (omega (arith, c.cycles.invariant.shelf_traffic.counted, c.in_ok-input.ensures.traffic.counted))
-    (g.met.S.Slots.stays_on _ _ _ c.cycles.invariant.shelf_traffic.stays c.in_ok-input.ensures.traffic.stays)))
+    rw (p.1, p.2) (no-read c.in_err-spare.field-0.0 shelf cut.cause
+    (shelf-then g.S.Slots.sees g.S.Slots.stays g.met.S.Slots.stays_on _ _ _ _ c.cycles.invariant.shelf_traffic
+    c.in_ok-input.ensures.traffic))
 
 pub cycles-smaller : goal.cycles-smaller
 cycles-smaller g c =
@@ -153,9 +151,8 @@ cycles-preserved g c =
       second_profile = c.in_ok-spare.ensures.second_profile ∙ c.cycles.invariant.second_profile;
       slot = c.in_ok-input.ensures.slot ∙ c.cycles.invariant.slot;
       events = c.in_ok-input.ensures.events ∙ c.cycles.invariant.events;
-      shelf_traffic = unfailed-shelf (shelf_run g.S.Slots.sees g.S.Slots.stays c.args.shelf.now c.next_input.new.shelf)
-          (omega (arith, c.cycles.invariant.shelf_traffic.counted, c.in_ok-input.ensures.traffic.counted))
-          (g.met.S.Slots.stays_on _ _ _ c.cycles.invariant.shelf_traffic.stays c.in_ok-input.ensures.traffic.stays);
+      shelf_traffic = shelf-then g.S.Slots.sees g.S.Slots.stays g.met.S.Slots.stays_on _ _ _ _ c.cycles.invariant.shelf_traffic
+          c.in_ok-input.ensures.traffic;
       sink_traffic = unfailed-sinks (joined sinks step)
           (omega (arith, c.cycles.invariant.sink_traffic.first, c.in_ok-spare.ensures.traffic.first))
           (omega (arith, c.cycles.invariant.sink_traffic.second, c.in_ok-spare.ensures.traffic.second));
@@ -181,9 +178,9 @@ pub returns-in_err-counts-clause-shelf_traffic : goal.returns-in_err-counts-clau
 returns-in_err-counts-clause-shelf_traffic g c =
     let p = err_from_is_err_and c.from_residual-in_err-counts.result c.from_residual-in_err-counts.ensures.1 in
     let shelf = shelf_run g.S.Slots.sees g.S.Slots.stays c.args.shelf.now c.next_input.new.shelf in
-    rw (p.1, p.2) (no-read c.in_err-counts.field-0.0 shelf c.in_err-counts.ensures.cut.cause (unfailed-shelf shelf
-    (omega (arith, c.cycles.invariant.shelf_traffic.counted, c.in_ok-input.ensures.traffic.counted))
-    (g.met.S.Slots.stays_on _ _ _ c.cycles.invariant.shelf_traffic.stays c.in_ok-input.ensures.traffic.stays)))
+    rw (p.1, p.2) (no-read c.in_err-counts.field-0.0 shelf c.in_err-counts.ensures.cut.cause
+    (shelf-then g.S.Slots.sees g.S.Slots.stays g.met.S.Slots.stays_on _ _ _ _ c.cycles.invariant.shelf_traffic
+    c.in_ok-input.ensures.traffic))
 
 pub returns-clause-chained : goal.returns-clause-chained
 returns-clause-chained g c =
@@ -204,6 +201,4 @@ returns-clause-chained g c =
 
 pub returns-clause-shelf_traffic : goal.returns-clause-shelf_traffic
 returns-clause-shelf_traffic g c =
-    unfailed-shelf (shelf_run g.S.Slots.sees g.S.Slots.stays c.args.shelf.now c.next_input.new.shelf)
-    (omega (arith, c.cycles.invariant.shelf_traffic.counted, c.in_ok-input.ensures.traffic.counted))
-    (g.met.S.Slots.stays_on _ _ _ c.cycles.invariant.shelf_traffic.stays c.in_ok-input.ensures.traffic.stays)
+    shelf-then g.S.Slots.sees g.S.Slots.stays g.met.S.Slots.stays_on _ _ _ _ c.cycles.invariant.shelf_traffic c.in_ok-input.ensures.traffic

@@ -37,13 +37,8 @@ returns-in-Ok-with_two_crews-clause-meets g c =
 
 pub returns-in-Ok-with_two_crews-clause-asked : goal.returns-in-Ok-with_two_crews-clause-asked
 returns-in-Ok-with_two_crews-clause-asked g c =
-    let client : Client = record { kind = c.args.first.run.kind; profile = c.args.first.run.profile } in
-    let behind : Client = record { kind = c.args.second.run.kind; profile = c.args.second.run.profile } in
-    let shelf = shelf_run g.S.Slots.sees g.S.Slots.stays c.open_input.new.self c.with_two_crews.new.shelf in
-    let out = sink_run g.K.Sink.took g.K.Sink.faults c.args.out.now c.with_two_crews.new.second_sink in
-    let reads = reads-by-kinds c.in-Ok.slot shelf untaken out client behind c.in-Ok-with_two_crews.chained
-    c.in-Ok-with_two_crews.ensures.given in
-    asks-all _ _ (c.args.stimulus.now ∷ []) (asks-then-kept c.in-Ok.ensures.asked reads.1.asked)
+    asks-all _ _ (c.args.stimulus.now ∷ []) (asks-then-kept c.in-Ok.ensures.asked
+    (reads-by-kinds _ _ _ _ _ _ _ _ _ c.in-Ok-with_two_crews.ensures.given).1.asked)
 
 pub returns-in-Err-with_two_crews-clause-meets : goal.returns-in-Err-with_two_crews-clause-meets
 returns-in-Err-with_two_crews-clause-meets g c =
@@ -54,13 +49,7 @@ returns-in-Err-clause-earlier g c = keeps-stay c.in-Err.ensures.slots
 
 pub returns-in-Ok-with_two_crews-clause-earlier : goal.returns-in-Ok-with_two_crews-clause-earlier
 returns-in-Ok-with_two_crews-clause-earlier g c =
-    let client : Client = record { kind = c.args.first.run.kind; profile = c.args.first.run.profile } in
-    let behind : Client = record { kind = c.args.second.run.kind; profile = c.args.second.run.profile } in
-    let shelf = shelf_run g.S.Slots.sees g.S.Slots.stays c.open_input.new.self c.with_two_crews.new.shelf in
-    let out = sink_run g.K.Sink.took g.K.Sink.faults c.args.out.now c.with_two_crews.new.second_sink in
-    let reads = reads-by-kinds c.in-Ok.slot shelf untaken out client behind c.in-Ok-with_two_crews.chained
-    c.in-Ok-with_two_crews.ensures.given in
-    keeps-read c.in-Ok.ensures.opens reads.1
+    keeps-read c.in-Ok.ensures.opens (reads-by-kinds _ _ _ _ _ _ _ _ _ c.in-Ok-with_two_crews.ensures.given).1
 
 pub returns-in-Err-with_two_crews-clause-earlier : goal.returns-in-Err-with_two_crews-clause-earlier
 returns-in-Err-with_two_crews-clause-earlier g c =

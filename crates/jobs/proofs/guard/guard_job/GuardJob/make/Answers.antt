@@ -2,31 +2,30 @@ use Rattle.std.proofs.Common.{◌≡◌, ◌≤◌, min, length, Some, ◌∙◌
 use Rattle.job_shared.specs.Params.{param, natural_param}
 use Rattle.jobs.specs.guard.Meaning.{bad_param, made}
 use Rattle.jobs.proofs.lemmas.guard.Made.{AreGood, none_bad, surplus_bad, same_guard}
+use Rattle.jobs.proofs.guard.guard_job.GuardJob.make.Goals.{After-no_more_params}
 use Rattle.jobs.proofs.guard.guard_job.GuardJob.make.Goals as goal
+
+-- all five were taken
+are_good : (c : After-no_more_params) → AreGood c.args.params.now
+are_good c = record {
+  channels = search (rules, c.in_ok-channels.ensures.ok);
+  low = search (rules, c.in_ok-low.ensures.ok);
+  high = search (rules, c.in_ok-high.ensures.ok);
+  limit = search (rules, c.in_ok-limit.ensures.ok);
+  most = search (rules, c.in_ok-most.ensures.ok);
+}
 
 pub returns-in_err-no_more_params : goal.returns-in_err-no_more_params
 returns-in_err-no_more_params c =
     let ps = c.args.params.now in
-    let good : AreGood ps = record {
-      channels = search (rules, c.in_ok-channels.ensures.ok);
-      low = search (rules, c.in_ok-low.ensures.ok);
-      high = search (rules, c.in_ok-high.ensures.ok);
-      limit = search (rules, c.in_ok-limit.ensures.ok);
-      most = search (rules, c.in_ok-most.ensures.ok);
-    } in
+    let good = are_good (goal.at.returns-in_err-no_more_params c).After-no_more_params in
     let bad : bad_param ps c.args.events ≡ Some 5 = surplus_bad ps c.args.events good (search (rules, c.in_err-no_more_params.ensures.err)) in
     search (rules, bad, c.in_err-no_more_params.ensures.err)
 
 pub returns : goal.returns
 returns c =
     let ps = c.args.params.now in
-    let good : AreGood ps = record {
-      channels = search (rules, c.in_ok-channels.ensures.ok);
-      low = search (rules, c.in_ok-low.ensures.ok);
-      high = search (rules, c.in_ok-high.ensures.ok);
-      limit = search (rules, c.in_ok-limit.ensures.ok);
-      most = search (rules, c.in_ok-most.ensures.ok);
-    } in
+    let good = are_good (goal.at.returns c).After-no_more_params in
     let few : length ps ≤ 5 = search (rules, c.in_ok-no_more_params.ensures.ok) in
     let channels : c.in_ok-channels.channels ≡ natural_param ps 0 1 65536 = search (rules, c.in_ok-channels.ensures.ok) in
     let low : c.in_ok-low.low ≡ param ps 1 = search (rules, c.in_ok-low.ensures.ok) in
