@@ -1,3 +1,4 @@
 pub mod check_command
 pub mod replay_command
+pub mod rewrite
 pub mod upgrade_command

@@ -3,4 +3,5 @@
 
 pub mod check_command;
 pub mod replay_command;
+mod rewrite;
 pub mod upgrade_command;

@@ -1,6 +1,3 @@
 //! The command `replay`: runs the inputs of a record again and writes the record that they give.
 
-mod replay_record;
-mod replay_visit;
-
-pub use replay_record::replay;
+pub use crate::rewrite::replay;

@@ -1,6 +1,3 @@
 //! The command `upgrade`: writes the record of the same run in format 2.
 
-mod upgrade_record;
-mod upgrade_visit;
-
-pub use upgrade_record::upgrade;
+pub use crate::rewrite::upgrade;

@@ -2,15 +2,14 @@
 use Rattle.std.specs.Prelude.{ℕ, List, Result, Ok, Err}
 use Rattle.det_values.specs.Values.{ProfileValue}
 use Rattle.det_io.specs.declared.failure.Stopped.{Stopped}
-use Rattle.det_io.specs.declared.failure.Stopped.TheVariants.{Refused, Failed}
 use Rattle.job.specs.Meaning.{Meaning}
 use Rattle.record_grammar.specs.declared.record_fault.RecordFault.{RecordFault}
 use Rattle.record_grammar.specs.Record.{fault as fault_in}
 use Rattle.recorder.specs.declared.run_writer.counts.Counts.{Counts}
 use Rattle.rerun.specs.replayer.ReplayRecord.{replay_record}
 use Rattle.cli_answers.specs.declared.answer.Answer.{Answer}
-use Rattle.cli_answers.specs.declared.answer.Answer.TheVariants.{Done, BadRecord}
-use Rattle.cli_answers.specs.Answers.{failed, by_fault}
+use Rattle.cli_answers.specs.declared.answer.Answer.TheVariants.{Done}
+use Rattle.cli_answers.specs.Answers.{by_fault, stopped}
 use Rattle.cli_answers.specs.Outcome.{Outcome, refusal}
 use Rattle.run_setup.specs.recorded_run.Run.{run_of, over_run, refused}
 
@@ -28,8 +27,7 @@ abbrev pub replay_outcome : List ℕ → Outcome
 replay_outcome record_bytes = over_run (λ S G E L P m profile. replayed_with m profile record_bytes)
     (λ why. refusal (refused why)) (run_of record_bytes)
 
--- the answer of a command for the result of a replay
-abbrev pub answer_of : Result Counts (Stopped RecordFault) → Answer
-answer_of (Ok counts) = Done
-answer_of (Err (Refused fault)) = BadRecord 0 fault
-answer_of (Err (Failed failure)) = failed failure
+-- the answer of the command for the result of a replay
+abbrev pub replay_answer : Result Counts (Stopped RecordFault) → Answer
+replay_answer (Ok counts) = Done
+replay_answer (Err stop) = stopped stop

@@ -31,7 +31,7 @@ upgrade_outcome record_bytes =
     (λ why. refusal (refused why)) (run_of record_bytes)
 
 -- the answer of the command for the result of an upgrade
-abbrev pub answer_of : Result CheckVerdict (Stopped RecordFault) → Answer
-answer_of (Ok (Genuine cycles)) = Done
-answer_of (Ok (Departs at)) = Differs
-answer_of (Err stop) = stopped stop
+abbrev pub upgrade_answer : Result CheckVerdict (Stopped RecordFault) → Answer
+upgrade_answer (Ok (Genuine cycles)) = Done
+upgrade_answer (Ok (Departs at)) = Differs
+upgrade_answer (Err stop) = stopped stop

@@ -1,8 +1,8 @@
 //! The command `check`: opens the record, checks it by a crew, and prints the verdict.
 ghost use Rattle.std.specs.Prelude.{◌≡◌, ◌≢◌, ℕ, List, ◌∷◌, [], ◌++◌, true, length, None, Some};
 ghost use Rattle.det_io.specs.Count.{Rose};
-ghost use Rattle.det_io.specs.Shelf.{AsksPrefix, Reads};
-ghost use Rattle.det_io.specs.Traffic.{sink_run};
+ghost use Rattle.det_io.specs.Shelf.{AsksPrefix};
+ghost use Rattle.det_io.specs.Traffic.{shelf_run, sink_run};
 ghost use Rattle.record_grammar.specs.declared.item.Item.TheVariants as items;
 ghost use Rattle.record_reader.specs.Frames.{IsOpen, StandsFor, slot_of};
 ghost use Rattle.probes.specs.Shows.{seen};
@@ -14,6 +14,7 @@ ghost use Rattle.cmd_rerun.specs.check_command.Check.{check_outcome, SawFirst};
 ghost use Rattle.cmd_rerun.specs.check_command.CheckVisit.{checked};
 ghost use Rattle.cmd_rerun.specs.check_command.Check.{runs_checked};
 ghost use Rattle.cmd_rerun.specs.check_command.CheckVisit.{runs_by_kind};
+ghost use Rattle.cmd_rerun.specs.Rest.{IsRerun};
 
 use crate::check_command::check_lines::print_verdict;
 use crate::check_command::check_visit::Check;
@@ -40,14 +41,10 @@ where
     G: Gate + Send + Sync + 'static,
     requires good { bad_param run.kind run.profile.params (length run.profile.events) ≡ None }
     requires opened { IsOpen run.frames run.profile (S.sees shelf.old) }
-    ensures meets { (read rest : List ℕ) → StandsFor run.frames read (items.Header run.profile ∷ [])
-        → Meets (checked run.kind run.profile (seen (λ b. life (b.vtable, b.value)) audience.old)
-        (read ++ rest)) ((S.sees shelf.old).left (slot_of run.frames) ≡ Some rest)
-        (Rose (S.sees shelf.old).faults (S.sees shelf.new).faults)
+    ensures rerun { IsRerun
+        (checked run.kind run.profile (seen (λ b. life (b.vtable, b.value)) audience.old))
+        compares_runs run.profile run.frames (shelf_run S.sees S.stays shelf.old shelf.new)
         (sink_run K.took K.faults out.old out.new) result }
-    ensures ends { can_end compares_runs result ≡ true }
-    ensures reads { (read : List ℕ)
-        × Reads (S.sees shelf.old) (S.sees shelf.new) (slot_of run.frames) read }
     ensures saw { (read rest : List ℕ) → StandsFor run.frames read (items.Header run.profile ∷ [])
         → result ≢ Answer.OutOfMemory → (S.sees shelf.old).left (slot_of run.frames) ≡ Some rest
         → SawFirst (seen (λ b. life (b.vtable, b.value)) audience.old)

@@ -30,7 +30,6 @@ use Rattle.record_reader.proofs.FrameReading.{more_items}
 use Rattle.copies.specs.declared.difference.Difference.{Difference}
 use Rattle.copies.specs.FirstDifference.{frame_difference}
 use Rattle.recorder.specs.declared.run_writer.recording.Recording.{Recording}
-use Rattle.recorder.specs.run_writer.Recording.{IsNew}
 use Rattle.record_reader.specs.InItems.{frame_in}
 use Rattle.rerun.specs.checker.RerunFrames.{IsEngineAfter, input_of, rerun_frame}
 use Rattle.rerun.specs.declared.checker.check_verdict.CheckVerdict.{CheckVerdict}
@@ -50,13 +49,6 @@ use Rattle.rerun.proofs.lemmas.upgrader.Records.{so_far, so_far-next}
 -- the run's profile is that of the record in format 2
 pub two-is : (original : Original) (profile : ProfileValue) → profile.format ≡ Two → profile ≡ in_format_two (header_of original profile)
 two-is original profile two = ap (λ (f : Format). record profile { format = f }) two
-
-pub new-behind : {S G E L P : Type 0} (m : Meaning S G E L P) (old new : Recording S G E L P) → IsNew m old → new.engine ≡ old.engine
-    → new.profile ≡ old.profile → IsEngineAfter m new []
-new-behind {S} {G} {E} m old new h engine profile = record {
-  engine = rw (engine, profile) h.engine;
-  going = ap (λ (e : EngineState S G E). e.stopped) engine ∙ h.going;
-}
 
 -- writing changes nothing of a run
 pub written-behind : {S G E L P : Type 0} (m : Meaning S G E L P) (old new : Recording S G E L P) (given : List CycleInput)

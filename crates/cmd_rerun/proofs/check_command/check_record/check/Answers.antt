@@ -1,32 +1,32 @@
 use Rattle.std.proofs.Common.{[], ◌∷◌, refl}
-use Rattle.det_io.specs.Count.{Rose}
-use Rattle.det_io.specs.Traffic.{sink_run}
+use Rattle.det_io.specs.Traffic.{shelf_run, sink_run}
 use Rattle.det_io.proofs.Opening.{asks-all, asks-then-kept}
-use Rattle.det_io.proofs.Counts.{rose-before}
 use Rattle.probes.specs.Shows.{seen}
-use Rattle.cli_answers.specs.Outcome.{KnowsBytes, known_bytes}
-use Rattle.run_setup.proofs.lemmas.recorded_run.Beginning.{is_known-name, meets-told, if-refused}
-use Rattle.run_setup.proofs.lemmas.recorded_run.Ending.{meets-end}
+use Rattle.cli_answers.specs.Outcome.{known_bytes}
+use Rattle.run_setup.proofs.lemmas.recorded_run.Beginning.{is_known-name}
 use Rattle.run_setup.proofs.lemmas.recorded_run.Resting.{rest, rest-told, keeps-behind}
+use Rattle.cmd_rerun.proofs.RestMeets.{meets-rerun, meets-no-run}
 use Rattle.cmd_rerun.proofs.lemmas.check_command.Meeting.{checked_by}
 use Rattle.cmd_rerun.proofs.lemmas.check_command.Seeing.{saw-whole}
 use Rattle.cmd_rerun.proofs.check_command.check_record.check.Goals as goal
 
 pub returns-in-Ok-clause-meets : goal.returns-in-Ok-clause-meets
 returns-in-Ok-clause-meets g c =
-    let first = (g.S.Slots.sees c.args.shelf.now).faults in
-    let mid = (g.S.Slots.sees c.open_recorded_run.new.shelf).faults in
-    let last = (g.S.Slots.sees c.check_by_crew.new.shelf).faults in
     let old = seen (λ b. (goal.Probe-dyn g (b.vtable, b.value)).life b.value) c.args.audience.now in
+    let opened = c.in-Ok.ensures in
+    let shelf = shelf_run g.S.Slots.sees g.S.Slots.stays c.open_recorded_run.new.shelf c.check_by_crew.new.shelf in
     let out = sink_run g.K.Sink.took g.K.Sink.faults c.args.out.now c.check_by_crew.new.out in
-    let begun = c.in-Ok.ensures.begun in
-    meets-told (checked_by old) begun c.in-Ok.ensures.run (Rose mid last) (Rose first last) out
-    c.check_by_crew.result (rose-before first mid last c.in-Ok.ensures.traffic.counted)
-    (c.check_by_crew.ensures.meets begun.read (rest begun) begun.gave)
+    meets-rerun (checked_by old) shelf out c.check_by_crew.result opened.begun opened.run opened.traffic.counted
+    c.check_by_crew.ensures.rerun
+
+pub returns-in-Ok-clause-ends : goal.returns-in-Ok-clause-ends
+returns-in-Ok-clause-ends g c = c.check_by_crew.ensures.rerun.ends
 
 pub returns-in-Ok-clause-asked : goal.returns-in-Ok-clause-asked
 returns-in-Ok-clause-asked g c =
-    asks-all _ _ (c.args.recorded.now ∷ []) (asks-then-kept c.in-Ok.ensures.asked c.check_by_crew.ensures.reads.1.asked)
+    let begun = c.in-Ok.ensures.begun in
+    let reads = c.check_by_crew.ensures.rerun.reads begun.read begun.gave in
+    asks-all _ _ (c.args.recorded.now ∷ []) (asks-then-kept c.in-Ok.ensures.asked reads.1.asked)
 
 pub returns-in-Ok-clause-saw : goal.returns-in-Ok-clause-saw
 returns-in-Ok-clause-saw g c ne is_known =
@@ -42,17 +42,13 @@ returns-in-Ok-clause-saw g c ne is_known =
 
 pub returns-in-Err-clause-meets : goal.returns-in-Err-clause-meets
 returns-in-Err-clause-meets g c =
-    let first = g.S.Slots.sees c.args.shelf.now in
-    let last = g.S.Slots.sees c.open_recorded_run.new.shelf in
-    let name = c.args.recorded.now in
     let old = seen (λ b. (goal.Probe-dyn g (b.vtable, b.value)).life b.value) c.args.audience.now in
-    let out = sink_run g.K.Sink.took g.K.Sink.faults c.args.out.now c.args.out.now in
     let read = c.in-Err.ensures in
     rw c.bad_run_answer.ensures
-    (meets-end (checked_by old (known_bytes first name)) (λ why. refl) (known_bytes first name) (KnowsBytes first (name
-    ∷ [])) (Rose first.faults last.faults)
-    out.before out.faults_before out.faults_after c.in-Err.end (if-refused first name c.in-Err.end read.refused) read.traffic.cause
-    read.writes_nothing)
+    (meets-no-run (checked_by old) (λ bytes why. refl) (g.S.Slots.sees c.args.shelf.now) (g.S.Slots.sees c.open_recorded_run.new.shelf)
+    c.args.recorded.now _ _ _ c.in-Err.end read.refused read.traffic.cause read.writes_nothing)
 
 pub returns-in-Ok-clause-earlier : goal.returns-in-Ok-clause-earlier
-returns-in-Ok-clause-earlier g c = keeps-behind c.in-Ok.ensures.begun c.check_by_crew.ensures.reads.1
+returns-in-Ok-clause-earlier g c =
+    let begun = c.in-Ok.ensures.begun in
+    keeps-behind begun (c.check_by_crew.ensures.rerun.reads begun.read begun.gave).1

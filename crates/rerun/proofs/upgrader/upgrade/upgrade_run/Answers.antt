@@ -10,7 +10,7 @@ use Rattle.record_grammar.specs.Spelling.{spelled, spelled_frame}
 use Rattle.record_reader.proofs.Views.{shelf-then, same-failure}
 use Rattle.record_reader.specs.Frames.{RoomFell, room}
 use Rattle.recorder.specs.run_writer.Recording.{Cuts}
-use Rattle.rerun.specs.checker.RerunFrames.{IsPlaced}
+use Rattle.rerun.specs.checker.RerunFrames.{IsPlaced, IsEngineAfter}
 use Rattle.rerun.specs.declared.checker.check_verdict.CheckVerdict.{CheckVerdict}
 use Rattle.rerun.specs.upgrader.UpgradeStart.{in_format_of, header_of}
 use Rattle.rerun.specs.upgrader.Frames.{GoesOn}
@@ -19,7 +19,7 @@ use Rattle.rerun.proofs.Reading.{none-of}
 use Rattle.rerun.proofs.lemmas.checker.Running.{held-frame, next-read, next-frame, next-none, placed, front-few, can-come, compared-none}
 use Rattle.rerun.proofs.lemmas.replayer.Running.{no-read as no-read-cut}
 use Rattle.rerun.proofs.lemmas.upgrader.Order.{fewer_inputs}
-use Rattle.rerun.proofs.lemmas.upgrader.Going.{two-is, new-behind, takes-as, running-next, no-write, no-read, compared-next, cycles-next}
+use Rattle.rerun.proofs.lemmas.upgrader.Going.{two-is, written-behind, takes-as, running-next, no-write, no-read, compared-next, cycles-next}
 use Rattle.rerun.proofs.lemmas.upgrader.Ending.{as-told, header-failed, departs, take-failed, close-failed, closed, reading-stopped}
 use Rattle.rerun.proofs.upgrader.upgrade.upgrade_run.Goals as goal
 
@@ -38,6 +38,7 @@ reading-init g c =
     let profile = header_of c.args.original.now c.args.recording.now.profile in
     let two = two-is c.args.original.now c.args.recording.now.profile c.requires.two in
     let ok = c.in_ok-write_upgraded_header.ensures in
+    let unstarted : IsEngineAfter m c.args.recording.now [] = record { engine = c.requires.new.engine; going = c.requires.new.going } in
     let grew = subst (λ (q : ProfileValue). Grew (g.K.Sink.took c.args.sink.now) (g.K.Sink.took c.write_upgraded_header.new.sink)
     (spelled q [])) two ok.took in
     record {
@@ -46,7 +47,7 @@ reading-init g c =
         [],
         record {
           compared = compared-none m profile _ _ _
-              (new-behind m c.args.recording.now c.write_upgraded_header.new.recording c.requires.new ok.engine ok.profile);
+              (written-behind m c.args.recording.now c.write_upgraded_header.new.recording [] unstarted ok.engine ok.profile);
           grew = grew;
         },
         refl,
