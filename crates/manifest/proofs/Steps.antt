@@ -40,20 +40,21 @@ pub params_fault : (tree : Data) (i n : ℕ) → i < n
     ≡ option_or (fault_at tree (Param i)) (first_fault tree (keys_of_params (i + 1) (n - (i + 1))))
 params_fault tree i n h = rw (one_more i n h)
 
-pub params_value : (tree : Data) (i n : ℕ) → i < n
-    → params_from tree i (n - i) ≡ whole_of (found tree (Param i)) ∷ params_from tree (i + 1) (n - (i + 1))
-params_value tree i n h = rw (one_more i n h)
+-- the value of number i, and of those after it
+pub values_step : {X : Type 0} (value : ℕ → X) (i n : ℕ) → i < n
+    → map value (range_with_len i (n - i)) ≡ value i ∷ map value (range_with_len (i + 1) (n - (i + 1)))
+values_step value i n h = rw (one_more i n h)
+
+-- the values so far, and one more
+pub values_more : {X : Type 0} (value : ℕ → X) (i n : ℕ) (done more : List X) (x : X)
+    → i < n → x ≡ value i → more ≡ done ++ x ∷ []
+    → done ++ map value (range_with_len i (n - i)) ≡ more ++ map value (range_with_len (i + 1) (n - (i + 1)))
+values_more value i n done more x h e pushed = rw (pushed, append_assoc, values_step value i n h, e)
 
 -- past a parameter without a fault
 pub params_past : (tree : Data) (i n : ℕ) → i < n → fault_at tree (Param i) ≡ None
     → first_fault tree (keys_of_params i (n - i)) ≡ first_fault tree (keys_of_params (i + 1) (n - (i + 1)))
 params_past tree i n h good = params_fault tree i n h ∙ rw good
-
--- the parameters so far, and one more
-pub params_more : (tree : Data) (i n : ℕ) (done more : List ℤ) (x : ℤ)
-    → i < n → x ≡ whole_of (found tree (Param i)) → more ≡ done ++ x ∷ []
-    → done ++ params_from tree i (n - i) ≡ more ++ params_from tree (i + 1) (n - (i + 1))
-params_more tree i n done more x h e pushed = rw (pushed, append_assoc, params_value tree i n h, e)
 
 -- the first fault of some keys and then of more
 pub first_append : (tree : Data) (ks ls : List Key)
@@ -66,20 +67,10 @@ pub events_fault : (tree : Data) (i n : ℕ) → i < n
     ≡ option_or (first_fault tree (event_keys i)) (first_fault tree (keys_of_events (i + 1) (n - (i + 1))))
 events_fault tree i n h = rw (one_more i n h) (first_append tree (event_keys i) (keys_of_events (i + 1) (n - (i + 1))))
 
-pub events_value : (tree : Data) (i n : ℕ) → i < n
-    → events_from tree i (n - i) ≡ event_at tree i ∷ events_from tree (i + 1) (n - (i + 1))
-events_value tree i n h = rw (one_more i n h)
-
 -- past an event without a fault
 pub events_past : (tree : Data) (i n : ℕ) → i < n → first_fault tree (event_keys i) ≡ None
     → first_fault tree (keys_of_events i (n - i)) ≡ first_fault tree (keys_of_events (i + 1) (n - (i + 1)))
 events_past tree i n h good = events_fault tree i n h ∙ rw good
-
--- the events so far, and one more
-pub events_more : (tree : Data) (i n : ℕ) (done more : List EventSpecValue) (x : EventSpecValue)
-    → i < n → x ≡ event_at tree i → more ≡ done ++ x ∷ []
-    → done ++ events_from tree i (n - i) ≡ more ++ events_from tree (i + 1) (n - (i + 1))
-events_more tree i n done more x h e pushed = rw (pushed, append_assoc, events_value tree i n h, e)
 
 -- whether an event repeats an earlier one, and those after it
 pub duplicate_step : (events : List EventSpecValue) (i : ℕ) (d : EventSpecValue) → i < length events

@@ -34,7 +34,7 @@ fn read_event(tree: &Value, i: u16) -> Result<EventSpec, ManifestFault>
 }
 
 /// The events, none if the key is absent.
-#[tactic(auto, using(crate::proofs::Steps::events_fault, crate::proofs::Steps::events_value))]
+#[tactic(auto, using(crate::proofs::Steps::events_fault, crate::proofs::Steps::values_step))]
 pub(crate) fn read_events(alloc: Global, tree: &Value) -> Result<Events, ManifestError>
     ensures read { IsRead result (first_fault (view tree.now) (events_keys (view tree.now)))
         (events_of (view tree.now)) }

@@ -13,7 +13,7 @@ use std::alloc::Global;
 use toml::Value;
 
 /// The parameters, none if the key is absent.
-#[tactic(auto, using(crate::proofs::Steps::params_fault, crate::proofs::Steps::params_value))]
+#[tactic(auto, using(crate::proofs::Steps::params_fault, crate::proofs::Steps::values_step))]
 pub(crate) fn read_params(alloc: Global, tree: &Value) -> Result<Params, ManifestError>
     ensures { IsRead result (first_fault (view tree.now) (params_keys (view tree.now)))
         (params_of (view tree.now)) }

@@ -6,7 +6,7 @@ use Rattle.manifest.specs.Keys.{found}
 use Rattle.manifest.specs.Tree.{whole_of}
 use Rattle.manifest.specs.Faults.{fault_at}
 use Rattle.manifest.specs.declared.key.Key.TheVariants.{Param}
-use Rattle.manifest.proofs.Steps.{params_past, params_more}
+use Rattle.manifest.proofs.Steps.{params_past, values_more}
 use Rattle.manifest.proofs.params.read_params.Goals as goal
 
 pub loop-i-preserved : goal.loop-i-preserved
@@ -22,6 +22,7 @@ loop-i-preserved c =
     let pushed : c.push.new.self ≡ c.loop-i.params ++ x ∷ [] = rw (← same) (search (rules, c.in_ok-push.ensures)) in
     record {
       faults = c.loop-i.invariant.faults ∙ params_past tree i n c.loop-i-test.true good;
-      values = c.loop-i.invariant.values ∙ params_more tree i n c.loop-i.params c.push.new.self x c.loop-i-test.true read pushed;
+      values = c.loop-i.invariant.values ∙ values_more (λ k. whole_of (found tree (Param k))) i n c.loop-i.params c.push.new.self x
+          c.loop-i-test.true read pushed;
       long = omega (arith, simp length-append at (ap length pushed), c.loop-i.invariant.long);
     }
