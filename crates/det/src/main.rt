@@ -17,29 +17,22 @@ use std::process::ExitCode;
 use std::sync::Arc;
 use std::thread::Threads;
 use terminal::{is_forced, writes_record};
-use worker_pool::{Gate, NapGate};
+use worker_pool::{AnyGate, NapGate};
 
 /// A gate at which a run's idle threads sleep by the clock.
-fn nap_gate(rt: &HostRuntime) -> Result<Arc<NapGate<HostRuntime>>, AllocError> {
+fn nap_gate(rt: &HostRuntime) -> Result<Box<NapGate<HostRuntime>>, AllocError> {
     let clock = rt.clone()?;
-    Ok(Arc::new(rt.alloc(), NapGate { clock })?)
+    Ok(Box::new(rt.alloc(), NapGate { clock })?)
 }
 
 /// Calls `top` with the shipped probes.
-fn run_with_probes<R, G, S, K, E>(
-    host: &Host<'_, R, G>,
+fn run_with_probes<R: Threads, S: Shelf, K: Sink, E: Sink>(
+    host: &Host<'_, R>,
     words: &[String],
     shelf: &mut S,
     out: &mut K,
     err: &mut E,
-) -> Result<Status, AllocError>
-where
-    R: Threads,
-    G: Gate + Send + Sync + 'static,
-    S: Shelf,
-    K: Sink,
-    E: Sink,
-{
+) -> Result<Status, AllocError> {
     let alloc = host.alloc;
     let mut probes = Vec::<Box<dyn Probe>>::with_capacity(alloc, 3)?;
     probes.push(Box::new(alloc, CountProbe::new())?)?;
@@ -67,6 +60,9 @@ fn main(rt: HostRuntime) -> ExitCode {
         let status = refuse_terminal(alloc, &mut err);
         return ExitCode::from(status.number());
     }
+    let Ok(gate) = Arc::new(alloc, AnyGate::new(gate)) else {
+        return report_out_of_memory(&mut err);
+    };
     let host = Host {
         rt: &rt,
         alloc,

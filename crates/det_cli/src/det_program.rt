@@ -32,7 +32,6 @@ use probes::{Audience, Probe};
 use shipped_crews::Host;
 use std::alloc::Global;
 use std::thread::Threads;
-use worker_pool::Gate;
 
 /// Runs the command that the arguments after the program's name give.
 ///
@@ -41,8 +40,8 @@ use worker_pool::Gate;
 /// worker that runs passes the gate; one beyond them isn't started and doesn't pass.
 ///
 /// `show`, `sim`, `check` and `salvage` show the runs that they read or make to the audience.
-pub fn top<S, K, E, R, G>(
-    host: &Host<'_, R, G>,
+pub fn top<S, K, E, R>(
+    host: &Host<'_, R>,
     words: &[String],
     shelf: &mut S,
     out: &mut K,
@@ -54,7 +53,6 @@ where
     K: Sink,
     E: Sink,
     R: Threads,
-    G: Gate + Send + Sync + 'static,
     ensures { IsPromised (texts words.now) (S.sees shelf.old) (S.sees shelf.new)
         (sink_run K.took K.faults out.old out.new)
         (sink_run E.took E.faults err.old err.new)
@@ -66,8 +64,8 @@ where
     answer.status()
 }
 
-fn dispatch_words<S, K, R, G>(
-    host: &Host<'_, R, G>,
+fn dispatch_words<S, K, R>(
+    host: &Host<'_, R>,
     words: &[String],
     shelf: &mut S,
     out: &mut K,
@@ -77,7 +75,6 @@ where
     S: Shelf,
     K: Sink,
     R: Threads,
-    G: Gate + Send + Sync + 'static,
     ensures { MatchOption (command_of (texts words.now))
         (Refuses (S.sees shelf.old) (S.sees shelf.new)
         (sink_run K.took K.faults out.old out.new)
@@ -95,8 +92,8 @@ where
     }
 }
 
-fn dispatch_command<S, K, R, G>(
-    host: &Host<'_, R, G>,
+fn dispatch_command<S, K, R>(
+    host: &Host<'_, R>,
     command: Command<'_>,
     shelf: &mut S,
     out: &mut K,
@@ -106,7 +103,6 @@ where
     S: Shelf,
     K: Sink,
     R: Threads,
-    G: Gate + Send + Sync + 'static,
     requires range { IsInRange (command_value command) }
     ensures { Runs (command_value command.entry) (S.sees shelf.old) (S.sees shelf.new)
         (sink_run K.took K.faults out.old out.new)

@@ -19,15 +19,14 @@ use det_io::{Shelf, Sink, write_all};
 use shipped_crews::{Host, Workers};
 use std::marker::Brand;
 use std::thread::Threads;
-use worker_pool::Gate;
 
 /// Runs a command that writes the record of a run. The output is gathered into writes of up to
 /// 65,536 bytes, and everything is written before this returns. A write that fails is a write
 /// fault. After a write that failed during the run, what is held is tried once more; the answer
 /// stays a write fault. `show` and reports aren't gathered, since no probe may see a run whose
 /// lines weren't taken.
-pub(crate) fn dispatch_gathered<S, K, R, G>(
-    host: &Host<'_, R, G>,
+pub(crate) fn dispatch_gathered<S, K, R>(
+    host: &Host<'_, R>,
     command: &Command<'_>,
     shelf: &mut S,
     out: &mut K,
@@ -36,7 +35,6 @@ where
     S: Shelf,
     K: Sink,
     R: Threads,
-    G: Gate + Send + Sync + 'static,
     requires range { IsInRange (command_value command.now) }
     requires word { writes_record command.now.word ≡ true }
     ensures { RunsUnseen (command_value command.now) (S.sees shelf.old) (S.sees shelf.new)
@@ -54,8 +52,8 @@ where
 }
 
 /// Runs the command over a front of the sink. Returns the sink with the bytes that are still held.
-fn dispatch_to_front<'a, 'r, S, K, R, G>(
-    host: &Host<'_, R, G>,
+fn dispatch_to_front<'a, 'r, S, K, R>(
+    host: &Host<'_, R>,
     command: &Command<'_>,
     shelf: &mut S,
     front: Front<'a, 'r, K>,
@@ -64,7 +62,6 @@ where
     S: Shelf,
     K: Sink,
     R: Threads,
-    G: Gate + Send + Sync + 'static,
     requires range { IsInRange (command_value command.now) }
     requires word { writes_record command.now.word ≡ true }
     ensures same_sink { result.1.ghost_name ≡ front.entry.sink.ghost_name }
@@ -74,7 +71,7 @@ where
         (K.took result.1.now) front.entry.held.now.items result.2.now.items
         (K.faults front.entry.sink.now) (K.faults result.1.now)) result.0 }
 {
-    let (answer, front) = dispatch_to_gatherer::<Front<'a, 'r, K>, Brand, S, R, G>(
+    let (answer, front) = dispatch_to_gatherer::<Front<'a, 'r, K>, Brand, S, R>(
         host, command, shelf, front,
     );
     let Front { sink, held } = front;
@@ -82,8 +79,8 @@ where
 }
 
 /// Runs the command over anything that gathers, and returns that.
-fn dispatch_to_gatherer<P, B, S, R, G>(
-    host: &Host<'_, R, G>,
+fn dispatch_to_gatherer<P, B, S, R>(
+    host: &Host<'_, R>,
     command: &Command<'_>,
     shelf: &mut S,
     front: P,
@@ -93,7 +90,6 @@ where
     B: Start,
     S: Shelf,
     R: Threads,
-    G: Gate + Send + Sync + 'static,
     requires range { IsInRange (command_value command.now) }
     requires word { writes_record command.now.word ≡ true }
     requires name { P.name front ≡ B.name }
@@ -110,8 +106,8 @@ where
 }
 
 /// Runs the command over a sink.
-fn dispatch_record_command<S, K, R, G>(
-    host: &Host<'_, R, G>,
+fn dispatch_record_command<S, K, R>(
+    host: &Host<'_, R>,
     command: &Command<'_>,
     shelf: &mut S,
     out: &mut K,
@@ -120,7 +116,6 @@ where
     S: Shelf,
     K: Sink,
     R: Threads,
-    G: Gate + Send + Sync + 'static,
     requires range { IsInRange (command_value command.now) }
     requires word { writes_record command.now.word ≡ true }
     ensures { RunsUnseen (command_value command.now) (S.sees shelf.old) (S.sees shelf.new)
@@ -166,10 +161,10 @@ where
 }
 
 /// The workers of a command whose number is given or else 1.
-pub(crate) fn workers_by_option<'h, R, G>(
-    host: &Host<'h, R, G>,
+pub(crate) fn workers_by_option<'h, R>(
+    host: &Host<'h, R>,
     given: Option<u32>,
-) -> Workers<'h, R, G>
+) -> Workers<'h, R>
     requires { IfSome given IsWorkers }
     ensures { result.count ≡ unwrap_or given 1 }
 {

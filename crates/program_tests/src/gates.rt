@@ -7,7 +7,7 @@ use std::sync::Arc;
 use std::sync::atomic::{AtomicBool, Ordering};
 use std::test::*;
 use std::thread::Threads;
-use worker_pool::{Gate, MeetGate};
+use worker_pool::{AnyGate, Gate, MeetGate};
 
 /// Notes whether the workers 0, 1 and 2 have come, and whether another one has. It holds none of
 /// them, since the number of a crew's threads depends on the machine.
@@ -50,20 +50,22 @@ impl Gate for ThreeGate {
 }
 
 /// A run whose workers pass a gate, without probes.
-fn run_through<R: Threads + Sync, G: Gate + Send + Sync + 'static>(
+fn run_through<R: Threads + Sync>(
     rt: &R,
     alloc: Global,
     line: &str,
-    gate: &Arc<G, Global>,
+    gate: Box<dyn Gate + Send + Sync>,
 ) -> Result<RunResult, AllocError> {
+    let gate = Arc::new(alloc, AnyGate::new(gate))?;
     let mut audience = Audience::new(alloc, Vec::new(alloc));
-    run_with(rt, alloc, line, NO_FAILURES, &mut audience, gate)
+    run_with(rt, alloc, line, NO_FAILURES, &mut audience, &gate)
 }
 
 #[test]
 fn two_workers_of_a_record_meet(rt: HostRuntime) -> Result<(), Fail> {
     let gate = Arc::new(rt.alloc(), MeetGate::new())?;
-    let ran = run_through(&rt, rt.alloc(), "record guard s.guard --workers 2", &gate)?;
+    let watched = Box::new(rt.alloc(), Arc::try_clone(&gate)?)?;
+    let ran = run_through(&rt, rt.alloc(), "record guard s.guard --workers 2", watched)?;
     let is_record = are_as_wanted(rt.alloc(), ran.out.bytes(), "=G2")?;
     assert!(rt; gate.met() && is_record);
     Ok(())
@@ -72,7 +74,8 @@ fn two_workers_of_a_record_meet(rt: HostRuntime) -> Result<(), Fail> {
 #[test]
 fn two_workers_of_a_simulated_run_meet(rt: HostRuntime) -> Result<(), Fail> {
     let gate = Arc::new(rt.alloc(), MeetGate::new())?;
-    let ran = run_through(&rt, rt.alloc(), "sim 7 --workers 2", &gate)?;
+    let watched = Box::new(rt.alloc(), Arc::try_clone(&gate)?)?;
+    let ran = run_through(&rt, rt.alloc(), "sim 7 --workers 2", watched)?;
     assert!(rt; gate.met() && ran.status == 0);
     Ok(())
 }
@@ -85,7 +88,8 @@ fn three_come<R: Threads + Sync>(
     wanted: &str,
 ) -> Result<bool, AllocError> {
     let gate = Arc::new(alloc, ThreeGate::new())?;
-    let ran = run_through(rt, alloc, line, &gate)?;
+    let watched = Box::new(alloc, Arc::try_clone(&gate)?)?;
+    let ran = run_through(rt, alloc, line, watched)?;
     Ok(gate.three_came() && are_as_wanted(alloc, ran.out.bytes(), wanted)?)
 }
 

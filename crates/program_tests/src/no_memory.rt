@@ -7,7 +7,7 @@ use std::alloc::{AllocError, Global};
 use std::sync::Arc;
 use std::test::*;
 use std::thread::Threads;
-use worker_pool::NoGate;
+use worker_pool::{AnyGate, NoGate};
 
 /// A shelf that runs out of memory when a name is opened. Its only slot is at its end.
 #[derive(Drop)]
@@ -52,7 +52,7 @@ fn show<R: Threads + Sync>(
     err: &mut MemSink,
 ) -> Result<u8, AllocError> {
     let words = words_of(alloc, "show m")?;
-    let gate = Arc::new(alloc, NoGate)?;
+    let gate = Arc::new(alloc, AnyGate::new(Box::new(alloc, NoGate)?))?;
     let host = Host {
         rt,
         alloc,

@@ -9,7 +9,7 @@ use sha2::{Digest, Sha256};
 use std::alloc::{AllocError, Global};
 use std::sync::Arc;
 use std::thread::Threads;
-use worker_pool::{Gate, NoGate};
+use worker_pool::{AnyGate, NoGate};
 
 /// The limits of a run: how many bytes a call moves at most, and the room of the output. Each
 /// `failing_` number is that of the call that fails, counted from 1, or 0 if none does. The calls
@@ -108,13 +108,13 @@ pub fn prepare(alloc: Global, line: &str, edges: Edges) -> Result<RunResult, All
 }
 
 /// Runs the arguments of a line with this audience and this gate.
-pub fn run_with<R: Threads + Sync, G: Gate + Send + Sync + 'static>(
+pub fn run_with<R: Threads + Sync>(
     rt: &R,
     alloc: Global,
     line: &str,
     edges: Edges,
     audience: &mut Audience,
-    gate: &Arc<G, Global>,
+    gate: &Arc<AnyGate, Global>,
 ) -> Result<RunResult, AllocError>
     requires { edges.room < 2 ^ 64 }
 {
@@ -142,7 +142,7 @@ pub fn run_ungated<R: Threads + Sync>(
 ) -> Result<RunResult, AllocError>
     requires { edges.room < 2 ^ 64 }
 {
-    let gate = Arc::new(alloc, NoGate)?;
+    let gate = Arc::new(alloc, AnyGate::new(Box::new(alloc, NoGate)?))?;
     run_with(rt, alloc, line, edges, audience, &gate)
 }
 

@@ -12,22 +12,22 @@ use recorder::run_writer::{Recording, Runner};
 use std::alloc::AllocError;
 use std::thread::Threads;
 use tickets::OfficeName;
-use worker_pool::{Crew, CrewRoom, Gate};
+use worker_pool::{AnyGate, Crew, CrewRoom};
 
 /// A run before anything of it is written, the room for its crew, and the workers that it needs.
 #[derive(Drop)]
-pub(crate) struct FreshRun<'r, J: Job, R, G> {
+pub(crate) struct FreshRun<'r, J: Job, R> {
     pub(crate) recording: Recording<J>,
     pub(crate) room: CrewRoom<J>,
-    pub(crate) workers: Workers<'r, R, G>,
+    pub(crate) workers: Workers<'r, R>,
 }
 
-impl<'r, J: Job, R, G> FreshRun<'r, J, R, G> {
+impl<'r, J: Job, R> FreshRun<'r, J, R> {
     /// Makes the run of a job, for as many of the workers as there are blocks of elements.
     pub(crate) fn new(
-        workers: &Workers<'r, R, G>,
+        workers: &Workers<'r, R>,
         profile: Profile,
-    ) -> Result<FreshRun<'r, J, R, G>, AllocError>
+    ) -> Result<FreshRun<'r, J, R>, AllocError>
         requires good { J.meaning.bad_param profile.params (length profile.events) ≡ None }
         ensures new { IfOk result (λ fresh_run. IsNew J.meaning fresh_run.recording) }
         ensures profile { IfOk result (λ fresh_run. fresh_run.recording.profile ≡ profile) }
@@ -52,9 +52,9 @@ impl<'r, J: Job, R, G> FreshRun<'r, J, R, G> {
 }
 
 /// Starts the threads of a crew in the room of a run.
-pub(crate) fn start_crew<J, N, R, G>(
-    fresh_run: FreshRun<'_, J, R, G>,
-) -> Result<Runner<J, Crew<J, N, G>>, AllocError>
+pub(crate) fn start_crew<J, N, R>(
+    fresh_run: FreshRun<'_, J, R>,
+) -> Result<Runner<J, Crew<J, N, AnyGate>>, AllocError>
 where
     J: Job + Send + Sync + 'static,
     J::Globals: Send + 'static,
@@ -63,7 +63,6 @@ where
     J::Part: Send + Sync + 'static,
     N: OfficeName + Send + Sync + 'static,
     R: Threads,
-    G: Gate + Send + Sync + 'static,
     requires { room_name fresh_run.room ≡ N.table }
     ensures recording { IfOk result (λ runner. runner.recording ≡ fresh_run.entry.recording) }
     ensures workers { IfOk result (λ runner. runner.pool ≡ fresh_run.entry.workers.count) }
@@ -73,7 +72,7 @@ where
         room,
         workers,
     } = fresh_run;
-    let pool = Crew::<J, N, G>::start(
+    let pool = Crew::<J, N, AnyGate>::start(
         workers.rt,
         workers.alloc,
         room,

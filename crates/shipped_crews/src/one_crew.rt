@@ -20,7 +20,7 @@ use std::alloc::AllocError;
 use std::marker::Brand;
 use std::thread::Threads;
 use tickets::OfficeName;
-use worker_pool::{Crew, Gate};
+use worker_pool::Crew;
 
 /// A shipped job and the profile of its run.
 #[derive(Drop)]
@@ -31,8 +31,8 @@ pub struct ShippedRun {
 
 /// Calls a visitor on a run with a crew, whose room has the name `N`. The threads of the crew end
 /// before this returns.
-fn visit_crew<J, N, V, S, K, R, G>(
-    fresh_run: FreshRun<'_, J, R, G>,
+fn visit_crew<J, N, V, S, K, R>(
+    fresh_run: FreshRun<'_, J, R>,
     visitor: V,
     shelf: &mut S,
     sink: &mut K,
@@ -49,7 +49,6 @@ where
     S: Slots,
     K: Sink,
     R: Threads,
-    G: Gate + Send + Sync + 'static,
     requires room { room_name fresh_run.room ≡ N.table }
     requires new { IsNew J.meaning fresh_run.recording }
     requires can { V.Can visitor fresh_run.recording.profile (S.sees shelf.old) }
@@ -63,7 +62,7 @@ where
     let Runner {
         mut recording,
         mut pool,
-    } = start_crew::<J, N, R, G>(fresh_run)?;
+    } = start_crew::<J, N, R>(fresh_run)?;
     let answer = visitor.visit(&mut recording, &mut pool, shelf, sink, audience);
     pool.stop(rt);
     Ok(answer)
@@ -72,8 +71,8 @@ where
 /// Calls a visitor on the run of a shipped job and a crew for it. The threads of the crew are kept
 /// from the first pass to the last. There are no more of them than blocks of elements. All of them
 /// end before this returns. If memory runs out first, the visitor was not called.
-pub fn with_crew<V, S, K, R, G>(
-    workers: &Workers<'_, R, G>,
+pub fn with_crew<V, S, K, R>(
+    workers: &Workers<'_, R>,
     run: ShippedRun,
     visitor: V,
     shelf: &mut S,
@@ -85,7 +84,6 @@ where
     S: Slots,
     K: Sink,
     R: Threads,
-    G: Gate + Send + Sync + 'static,
     requires good { IsGoodRun run.kind run.profile }
     requires can { V.Can visitor run.profile (S.sees shelf.old) }
     ensures { HasVisited S.sees S.stays K.took K.faults (λ shelf sink audience last answer.
@@ -98,16 +96,16 @@ where
     let ShippedRun { kind, profile } = run;
     match kind {
         JobKind::Bank => {
-            let fresh_run = FreshRun::<Bank, R, G>::new(workers, profile)?;
-            visit_crew::<Bank, Brand, V, S, K, R, G>(fresh_run, visitor, shelf, sink, audience)
+            let fresh_run = FreshRun::<Bank, R>::new(workers, profile)?;
+            visit_crew::<Bank, Brand, V, S, K, R>(fresh_run, visitor, shelf, sink, audience)
         }
         JobKind::Cloud => {
-            let fresh_run = FreshRun::<Cloud, R, G>::new(workers, profile)?;
-            visit_crew::<Cloud, Brand, V, S, K, R, G>(fresh_run, visitor, shelf, sink, audience)
+            let fresh_run = FreshRun::<Cloud, R>::new(workers, profile)?;
+            visit_crew::<Cloud, Brand, V, S, K, R>(fresh_run, visitor, shelf, sink, audience)
         }
         JobKind::Guard => {
-            let fresh_run = FreshRun::<Guard, R, G>::new(workers, profile)?;
-            visit_crew::<Guard, Brand, V, S, K, R, G>(fresh_run, visitor, shelf, sink, audience)
+            let fresh_run = FreshRun::<Guard, R>::new(workers, profile)?;
+            visit_crew::<Guard, Brand, V, S, K, R>(fresh_run, visitor, shelf, sink, audience)
         }
     }
 }

@@ -19,20 +19,20 @@ use std::alloc::AllocError;
 use std::marker::Brand;
 use std::thread::Threads;
 use tickets::OfficeName;
-use worker_pool::{Crew, Gate};
+use worker_pool::{AnyGate, Crew};
 
 /// A run, and the workers for it.
 #[derive(Drop)]
-pub struct PlannedRun<'r, R, G> {
+pub struct PlannedRun<'r, R> {
     pub run: ShippedRun,
-    pub workers: Workers<'r, R, G>,
+    pub workers: Workers<'r, R>,
 }
 
 /// Calls a visitor on a first run and on a second one with a crew. The second crew's threads end
 /// before this returns.
-fn visit_second_crew<A, P, B, N, V, S, K, L, R, G>(
+fn visit_second_crew<A, P, B, N, V, S, K, L, R>(
     first: &mut Runner<A, P>,
-    second: FreshRun<'_, B, R, G>,
+    second: FreshRun<'_, B, R>,
     visitor: V,
     shelf: &mut S,
     first_sink: &mut K,
@@ -52,7 +52,6 @@ where
     K: Sink,
     L: Sink,
     R: Threads,
-    G: Gate + Send + Sync + 'static,
     requires first { IsNew A.meaning first.old.recording }
     requires second { IsNew B.meaning second.recording }
     requires room { room_name second.room ≡ N.table }
@@ -65,7 +64,7 @@ where
         first_sink.old first_sink.new second_sink.old second_sink.new result }
 {
     let rt = second.workers.rt;
-    let mut second = start_crew::<B, N, R, G>(second)?;
+    let mut second = start_crew::<B, N, R>(second)?;
     let answer = visitor.visit_two(first, &mut second, shelf, first_sink, second_sink);
     let Runner { recording: _, pool } = second;
     pool.stop(rt);
@@ -73,9 +72,9 @@ where
 }
 
 /// Calls a visitor on a first run and on the run of a second shipped job, with a crew for it.
-fn visit_second_kind<A, P, V, S, K, L, R, G>(
+fn visit_second_kind<A, P, V, S, K, L, R>(
     first: &mut Runner<A, P>,
-    second: PlannedRun<'_, R, G>,
+    second: PlannedRun<'_, R>,
     visitor: V,
     shelf: &mut S,
     first_sink: &mut K,
@@ -89,7 +88,6 @@ where
     K: Sink,
     L: Sink,
     R: Threads,
-    G: Gate + Send + Sync + 'static,
     requires first { IsNew A.meaning first.old.recording }
     requires second { IsGoodRun second.run.kind second.run.profile }
     requires can { V.Can visitor first.old.recording.profile second.run.profile
@@ -104,8 +102,8 @@ where
     let ShippedRun { kind, profile } = run;
     match kind {
         JobKind::Bank => {
-            let second = FreshRun::<Bank, R, G>::new(&workers, profile)?;
-            visit_second_crew::<A, P, Bank, Brand, V, S, K, L, R, G>(
+            let second = FreshRun::<Bank, R>::new(&workers, profile)?;
+            visit_second_crew::<A, P, Bank, Brand, V, S, K, L, R>(
                 first,
                 second,
                 visitor,
@@ -115,8 +113,8 @@ where
             )
         }
         JobKind::Cloud => {
-            let second = FreshRun::<Cloud, R, G>::new(&workers, profile)?;
-            visit_second_crew::<A, P, Cloud, Brand, V, S, K, L, R, G>(
+            let second = FreshRun::<Cloud, R>::new(&workers, profile)?;
+            visit_second_crew::<A, P, Cloud, Brand, V, S, K, L, R>(
                 first,
                 second,
                 visitor,
@@ -126,8 +124,8 @@ where
             )
         }
         JobKind::Guard => {
-            let second = FreshRun::<Guard, R, G>::new(&workers, profile)?;
-            visit_second_crew::<A, P, Guard, Brand, V, S, K, L, R, G>(
+            let second = FreshRun::<Guard, R>::new(&workers, profile)?;
+            visit_second_crew::<A, P, Guard, Brand, V, S, K, L, R>(
                 first,
                 second,
                 visitor,
@@ -141,9 +139,9 @@ where
 
 /// Calls a visitor on a first run with a crew and on a second one. The first crew's threads end
 /// before this returns.
-fn visit_first_crew<A, N, V, S, K, L, R, G>(
-    first: FreshRun<'_, A, R, G>,
-    second: PlannedRun<'_, R, G>,
+fn visit_first_crew<A, N, V, S, K, L, R>(
+    first: FreshRun<'_, A, R>,
+    second: PlannedRun<'_, R>,
     visitor: V,
     shelf: &mut S,
     first_sink: &mut K,
@@ -161,7 +159,6 @@ where
     K: Sink,
     L: Sink,
     R: Threads,
-    G: Gate + Send + Sync + 'static,
     requires first { IsNew A.meaning first.recording }
     requires room { room_name first.room ≡ N.table }
     requires second { IsGoodRun second.run.kind second.run.profile }
@@ -173,8 +170,8 @@ where
         first_sink.old first_sink.new second_sink.old second_sink.new result }
 {
     let rt = first.workers.rt;
-    let mut first = start_crew::<A, N, R, G>(first)?;
-    let answer = visit_second_kind::<A, Crew<A, N, G>, V, S, K, L, R, G>(
+    let mut first = start_crew::<A, N, R>(first)?;
+    let answer = visit_second_kind::<A, Crew<A, N, AnyGate>, V, S, K, L, R>(
         &mut first,
         second,
         visitor,
@@ -194,9 +191,9 @@ where
 ///
 /// Another function, generic in the first run, matches on the second kind. So there are three arms
 /// and three, not nine.
-pub fn with_two_crews<V, S, K, L, R, G>(
-    first: PlannedRun<'_, R, G>,
-    second: PlannedRun<'_, R, G>,
+pub fn with_two_crews<V, S, K, L, R>(
+    first: PlannedRun<'_, R>,
+    second: PlannedRun<'_, R>,
     visitor: V,
     shelf: &mut S,
     first_sink: &mut K,
@@ -208,7 +205,6 @@ where
     K: Sink,
     L: Sink,
     R: Threads,
-    G: Gate + Send + Sync + 'static,
     requires first { IsGoodRun first.run.kind first.run.profile }
     requires second { IsGoodRun second.run.kind second.run.profile }
     requires can { V.Can visitor first.run.profile second.run.profile (S.sees shelf.old) }
@@ -223,8 +219,8 @@ where
     let ShippedRun { kind, profile } = run;
     match kind {
         JobKind::Bank => {
-            let first = FreshRun::<Bank, R, G>::new(&workers, profile)?;
-            visit_first_crew::<Bank, Brand, V, S, K, L, R, G>(
+            let first = FreshRun::<Bank, R>::new(&workers, profile)?;
+            visit_first_crew::<Bank, Brand, V, S, K, L, R>(
                 first,
                 second,
                 visitor,
@@ -234,8 +230,8 @@ where
             )
         }
         JobKind::Cloud => {
-            let first = FreshRun::<Cloud, R, G>::new(&workers, profile)?;
-            visit_first_crew::<Cloud, Brand, V, S, K, L, R, G>(
+            let first = FreshRun::<Cloud, R>::new(&workers, profile)?;
+            visit_first_crew::<Cloud, Brand, V, S, K, L, R>(
                 first,
                 second,
                 visitor,
@@ -245,8 +241,8 @@ where
             )
         }
         JobKind::Guard => {
-            let first = FreshRun::<Guard, R, G>::new(&workers, profile)?;
-            visit_first_crew::<Guard, Brand, V, S, K, L, R, G>(
+            let first = FreshRun::<Guard, R>::new(&workers, profile)?;
+            visit_first_crew::<Guard, Brand, V, S, K, L, R>(
                 first,
                 second,
                 visitor,

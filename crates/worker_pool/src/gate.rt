@@ -1,4 +1,6 @@
 //! Gates: a hook before a worker's first block, for tests, and the wait of an idle thread.
+use std::alloc::Global;
+use std::sync::Arc;
 use std::sync::atomic::{AtomicBool, Ordering};
 use std::time::{Clock, Duration};
 use std::{hint, thread};
@@ -26,6 +28,41 @@ pub trait Gate: Drop {
         } else {
             thread::yield_now();
         }
+    }
+}
+
+/// A shared gate is passed as the gate itself is. So an owner that is kept can look at the gate
+/// afterwards.
+impl<G: Gate> Gate for Arc<G, Global> {
+    fn enter(&self, worker: u32) {
+        (**self).enter(worker);
+    }
+
+    fn rest(&self, looks: u32) {
+        (**self).rest(looks);
+    }
+}
+
+/// Any gate, with its type erased. So what starts a crew need not be generic in the gate.
+#[derive(Drop)]
+pub struct AnyGate {
+    gate: Box<dyn Gate + Send + Sync>,
+}
+
+impl AnyGate {
+    /// Erases the type of a gate.
+    pub fn new(gate: Box<dyn Gate + Send + Sync>) -> AnyGate {
+        AnyGate { gate }
+    }
+}
+
+impl Gate for AnyGate {
+    fn enter(&self, worker: u32) {
+        self.gate.enter(worker);
+    }
+
+    fn rest(&self, looks: u32) {
+        self.gate.rest(looks);
     }
 }
 

@@ -31,7 +31,7 @@ mod work;
 pub use bench::Bench;
 pub use crew::Crew;
 pub use crew_room::CrewRoom;
-pub use gate::{Gate, MeetGate, NapGate, NoGate};
+pub use gate::{AnyGate, Gate, MeetGate, NapGate, NoGate};
 pub use link::Link;
 pub use messages::{Reply, ReplyFits, Work, WorkFits};
 pub use pool::run_worker_pool;

@@ -24,11 +24,10 @@ use probes::{Audience, Probe};
 use run_setup::recorded_run::{RecordedRun, bad_run_answer, open_recorded_run};
 use shipped_crews::{ShippedRun, Workers, with_crew};
 use std::thread::Threads;
-use worker_pool::Gate;
 
 /// Checks the rest of a record by a crew, and prints the verdict and the reports.
-fn check_by_crew<S, K, R, G>(
-    workers: &Workers<'_, R, G>,
+fn check_by_crew<S, K, R>(
+    workers: &Workers<'_, R>,
     run: RecordedRun,
     shelf: &mut S,
     out: &mut K,
@@ -38,7 +37,6 @@ where
     S: Slots,
     K: Sink,
     R: Threads,
-    G: Gate + Send + Sync + 'static,
     requires good { bad_param run.kind run.profile.params (length run.profile.events) ≡ None }
     requires opened { IsOpen run.frames run.profile (S.sees shelf.old) }
     ensures rerun { IsRerun
@@ -82,8 +80,8 @@ where
 ///
 /// If the record has a fault and departs nowhere before it, nothing is printed. If no shipped job
 /// takes what the header says, the audience isn't shown anything either.
-pub fn check<S, K, R, G>(
-    workers: &Workers<'_, R, G>,
+pub fn check<S, K, R>(
+    workers: &Workers<'_, R>,
     recorded: &str,
     shelf: &mut S,
     out: &mut K,
@@ -93,7 +91,6 @@ where
     S: Shelf,
     K: Sink,
     R: Threads,
-    G: Gate + Send + Sync + 'static,
     ensures meets { Meets (check_outcome (seen (λ b. life (b.vtable, b.value)) audience.old)
         (known_bytes (S.sees shelf.old) recorded.now)) (KnowsBytes (S.sees shelf.old) (recorded.now
         ∷ []))

@@ -21,11 +21,10 @@ use rerun::upgrader::Original;
 use run_setup::recorded_run::{RecordedRun, bad_run_answer, open_recorded_run};
 use shipped_crews::{ShippedRun, Workers, with_crew};
 use std::thread::Threads;
-use worker_pool::Gate;
 
 /// Rewrites the rest of a record by a crew, without an audience.
-fn rewrite_by_crew<S, K, R, G>(
-    workers: &Workers<'_, R, G>,
+fn rewrite_by_crew<S, K, R>(
+    workers: &Workers<'_, R>,
     rewrite: Rewrite,
     run: RecordedRun,
     shelf: &mut S,
@@ -35,7 +34,6 @@ where
     S: Slots,
     K: Sink,
     R: Threads,
-    G: Gate + Send + Sync + 'static,
     requires good { bad_param run.kind run.profile.params (length run.profile.events) ≡ None }
     requires opened { IsOpen run.frames run.profile (S.sees shelf.old) }
     ensures { IsRerun (rewritten rewrite run.kind run.profile) (work_of rewrite) run.profile
@@ -61,8 +59,8 @@ where
 
 /// Runs the job of the record under this name again over its inputs, and writes a record of that
 /// run. If no shipped job takes what the header says, nothing is written.
-fn rewrite_named_record<S, K, R, G>(
-    workers: &Workers<'_, R, G>,
+fn rewrite_named_record<S, K, R>(
+    workers: &Workers<'_, R>,
     rewrite: Rewrite,
     recorded: &str,
     shelf: &mut S,
@@ -72,7 +70,6 @@ where
     S: Shelf,
     K: Sink,
     R: Threads,
-    G: Gate + Send + Sync + 'static,
     ensures meets { Meets (rewrite_outcome rewrite (known_bytes (S.sees shelf.old) recorded.now))
         (KnowsBytes (S.sees shelf.old) (recorded.now ∷ []))
         (Rose (S.sees shelf.old).faults (S.sees shelf.new).faults)
@@ -91,8 +88,8 @@ where
 /// they give. The outcomes in the record that is read don't matter. If it has a fault, the runs of
 /// all inputs before the fault are written, without Terminate. If no shipped job takes what the
 /// header says, nothing is written.
-pub fn replay<S, K, R, G>(
-    workers: &Workers<'_, R, G>,
+pub fn replay<S, K, R>(
+    workers: &Workers<'_, R>,
     recorded: &str,
     shelf: &mut S,
     out: &mut K,
@@ -101,7 +98,6 @@ where
     S: Shelf,
     K: Sink,
     R: Threads,
-    G: Gate + Send + Sync + 'static,
     ensures meets { Meets (replay_outcome (known_bytes (S.sees shelf.old) recorded.now))
         (KnowsBytes (S.sees shelf.old) (recorded.now ∷ []))
         (Rose (S.sees shelf.old).faults (S.sees shelf.new).faults)
@@ -118,8 +114,8 @@ where
 ///
 /// If the record has a fault, the frames before it are written, without Terminate. If no shipped
 /// job takes what the header says, nothing is written.
-pub fn upgrade<S, K, R, G>(
-    workers: &Workers<'_, R, G>,
+pub fn upgrade<S, K, R>(
+    workers: &Workers<'_, R>,
     recorded: &str,
     shelf: &mut S,
     out: &mut K,
@@ -128,7 +124,6 @@ where
     S: Shelf,
     K: Sink,
     R: Threads,
-    G: Gate + Send + Sync + 'static,
     ensures meets { Meets (upgrade_outcome (known_bytes (S.sees shelf.old) recorded.now))
         (KnowsBytes (S.sees shelf.old) (recorded.now ∷ []))
         (Rose (S.sees shelf.old).faults (S.sees shelf.new).faults)

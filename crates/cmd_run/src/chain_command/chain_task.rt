@@ -20,7 +20,6 @@ use cli_answers::Answer;
 use det_io::{Shelf, Sink};
 use shipped_crews::{Host, PlannedRun};
 use std::thread::Threads;
-use worker_pool::Gate;
 
 /// The arguments of `chain`.
 #[derive(Drop)]
@@ -36,9 +35,9 @@ pub struct ChainTask<'t> {
 }
 
 /// Reads the second manifest, and chains its client to the first one.
-fn chain_second<S, K, R, G>(
-    host: &Host<'_, R, G>,
-    first: PlannedRun<'_, R, G>,
+fn chain_second<S, K, R>(
+    host: &Host<'_, R>,
+    first: PlannedRun<'_, R>,
     task: &ChainTask<'_>,
     shelf: &mut S,
     out: &mut K,
@@ -47,7 +46,6 @@ where
     S: Shelf,
     K: Sink,
     R: Threads,
-    G: Gate + Send + Sync + 'static,
     requires workers { IfSome task.now.options.workers IsWorkers }
     requires first { IsGoodRun first.run.kind first.run.profile }
     ensures meets { Meets
@@ -77,8 +75,8 @@ where
 /// Writes the record of a second client, whose samples are the outputs of a first one over a
 /// stimulus. The first client's record is made and dropped. The first manifest is read and checked
 /// before the second is opened, and the second before the stimulus.
-pub fn chain<S, K, R, G>(
-    host: &Host<'_, R, G>,
+pub fn chain<S, K, R>(
+    host: &Host<'_, R>,
     task: &ChainTask<'_>,
     shelf: &mut S,
     out: &mut K,
@@ -87,7 +85,6 @@ where
     S: Shelf,
     K: Sink,
     R: Threads,
-    G: Gate + Send + Sync + 'static,
     requires workers { IfSome task.now.options.workers IsWorkers }
     ensures meets { Meets
         (chain_outcome task.now.options.strict (known_bytes (S.sees shelf.old) task.now.first.now)

@@ -16,13 +16,12 @@ use cli_answers::Answer;
 use det_io::{Discard, Shelf, Sink};
 use shipped_crews::{PlannedRun, with_two_crews};
 use std::thread::Threads;
-use worker_pool::Gate;
 
 /// Chains two clients over the stimulus under a name. The record of the first client is discarded:
 /// `record` writes the same one for the first manifest.
-pub(crate) fn chain_named_stimulus<S, K, R, G>(
-    first: PlannedRun<'_, R, G>,
-    second: PlannedRun<'_, R, G>,
+pub(crate) fn chain_named_stimulus<S, K, R>(
+    first: PlannedRun<'_, R>,
+    second: PlannedRun<'_, R>,
     stimulus: &str,
     shelf: &mut S,
     out: &mut K,
@@ -31,7 +30,6 @@ where
     S: Shelf,
     K: Sink,
     R: Threads,
-    G: Gate + Send + Sync + 'static,
     requires first { IsGoodRun first.run.kind first.run.profile }
     requires second { IsGoodRun second.run.kind second.run.profile }
     ensures meets { Meets

@@ -15,7 +15,6 @@ use det_values::{EventName, EventSpec, Events, Format, JobKind, Params, Policy, 
 use shipped_crews::{Host, ShippedRun};
 use std::alloc::{AllocError, Global};
 use std::thread::Threads;
-use worker_pool::Gate;
 
 fn demo_events(alloc: Global) -> Result<Events, AllocError>
     ensures { IfOk result (λ events. events ≡ demo_profile.events) }
@@ -56,12 +55,11 @@ fn demo_profile(alloc: Global) -> Result<Profile, AllocError>
 }
 
 /// Writes the record of the built-in profile over the stimulus of this name.
-pub fn demo<S, K, R, G>(host: &Host<'_, R, G>, stimulus: &str, shelf: &mut S, out: &mut K) -> Answer
+pub fn demo<S, K, R>(host: &Host<'_, R>, stimulus: &str, shelf: &mut S, out: &mut K) -> Answer
 where
     S: Shelf,
     K: Sink,
     R: Threads,
-    G: Gate + Send + Sync + 'static,
     ensures meets { Meets (demo_outcome (known_bytes (S.sees shelf.old) stimulus.now))
         (KnowsBytes (S.sees shelf.old) (stimulus.now ∷ []))
         (Rose (S.sees shelf.old).faults (S.sees shelf.new).faults)

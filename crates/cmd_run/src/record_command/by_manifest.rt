@@ -16,7 +16,6 @@ use cli_answers::Answer;
 use det_io::{Shelf, Sink};
 use shipped_crews::{Host, PlannedRun};
 use std::thread::Threads;
-use worker_pool::Gate;
 
 /// The arguments of `record`.
 #[derive(Drop)]
@@ -30,8 +29,8 @@ pub struct RecordTask<'t> {
 
 /// Writes the record of a manifest's profile over a stimulus. The manifest is read and checked
 /// before the stimulus is opened.
-pub fn record_by_manifest<S, K, R, G>(
-    host: &Host<'_, R, G>,
+pub fn record_by_manifest<S, K, R>(
+    host: &Host<'_, R>,
     task: &RecordTask<'_>,
     shelf: &mut S,
     out: &mut K,
@@ -40,7 +39,6 @@ where
     S: Shelf,
     K: Sink,
     R: Threads,
-    G: Gate + Send + Sync + 'static,
     requires workers { IfSome task.now.options.workers IsWorkers }
     ensures meets { Meets
         (record_outcome task.now.options.strict

@@ -17,7 +17,6 @@ use probes::Audience;
 use shipped_crews::{ShippedRun, Workers, with_crew};
 use std::thread::Threads;
 use stimulus::StimulusFault;
-use worker_pool::Gate;
 
 /// The answer of a command for the result of a recording or of a chain.
 pub(crate) fn stimulus_answer<C: Drop>(counts: Result<C, Stopped<StimulusFault>>) -> Answer
@@ -32,8 +31,8 @@ pub(crate) fn stimulus_answer<C: Drop>(counts: Result<C, Stopped<StimulusFault>>
 }
 
 /// Records the stimulus under a name, without an audience.
-pub(crate) fn record_named_stimulus<S, K, R, G>(
-    workers: &Workers<'_, R, G>,
+pub(crate) fn record_named_stimulus<S, K, R>(
+    workers: &Workers<'_, R>,
     run: ShippedRun,
     stimulus: &str,
     shelf: &mut S,
@@ -43,7 +42,6 @@ where
     S: Shelf,
     K: Sink,
     R: Threads,
-    G: Gate + Send + Sync + 'static,
     requires good { IsGoodRun run.kind run.profile }
     ensures meets { Meets
         (recorded_by_kind run.kind run.profile (known_bytes (S.sees shelf.old) stimulus.now))

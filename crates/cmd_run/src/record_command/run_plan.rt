@@ -42,11 +42,11 @@ fn workers_or(given: Option<u32>, own: u32) -> u32
 }
 
 /// The run of a manifest, and the workers for it.
-fn plan_run<'h, R, G>(
-    host: &Host<'h, R, G>,
+fn plan_run<'h, R>(
+    host: &Host<'h, R>,
     setup: &Manifest,
     options: &RunOptions,
-) -> Result<PlannedRun<'h, R, G>, AllocError>
+) -> Result<PlannedRun<'h, R>, AllocError>
     requires good { IsGood setup.now }
     requires workers { IfSome options.now.workers IsWorkers }
     ensures kind { IfOk result (λ plan. plan.run.kind ≡ setup.now.kind) }
@@ -64,12 +64,12 @@ fn plan_run<'h, R, G>(
 }
 
 /// Reads the manifest under a name, and plans its run.
-pub(crate) fn read_plan<'h, S: Shelf, R, G>(
-    host: &Host<'h, R, G>,
+pub(crate) fn read_plan<'h, S: Shelf, R>(
+    host: &Host<'h, R>,
     name: &str,
     options: &RunOptions,
     shelf: &mut S,
-) -> Result<PlannedRun<'h, R, G>, Stopped<BadManifest>>
+) -> Result<PlannedRun<'h, R>, Stopped<BadManifest>>
     requires workers { IfSome options.now.workers IsWorkers }
     ensures planned { IfOk result (λ plan. IsPlanned (S.sees shelf.old) name.now options.now.strict
         options.now.seed options.now.workers plan.run.kind plan.run.profile plan.workers.count) }

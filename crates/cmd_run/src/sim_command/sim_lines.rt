@@ -20,7 +20,6 @@ use shipped_crews::{ShippedRun, Workers};
 use std::alloc::{AllocError, Global};
 use std::thread::Threads;
 use stimulus::generate_stimulus;
-use worker_pool::Gate;
 
 /// The lines of a summary, then the reports.
 fn sim_output_lines(alloc: Global, summary: &Summary, reports: &[u8]) -> Result<Vec<u8>, AllocError>
@@ -35,14 +34,13 @@ fn sim_output_lines(alloc: Global, summary: &Summary, reports: &[u8]) -> Result<
 
 /// The output of `sim`. It is made whole before a byte is written. The record goes only into a
 /// digest.
-fn sim_text<R, G>(
-    workers: &Workers<'_, R, G>,
+fn sim_text<R>(
+    workers: &Workers<'_, R>,
     number: u64,
     audience: &mut Audience,
 ) -> Result<Vec<u8>, AllocError>
 where
     R: Threads,
-    G: Gate + Send + Sync + 'static,
     requires { IsWorkers workers.now.count }
     ensures text { IfOk result (λ text. text.items
         ≡ sim_text (seen (λ b. life (b.vtable, b.value)) audience.old) number) }
@@ -64,8 +62,8 @@ where
 
 /// Prints a summary of the built-in cloud's run over the stimulus that is generated from a number.
 /// The cycles are shown to the audience, and its reports are printed after the summary.
-pub fn sim<K, R, G>(
-    workers: &Workers<'_, R, G>,
+pub fn sim<K, R>(
+    workers: &Workers<'_, R>,
     number: u64,
     out: &mut K,
     audience: &mut Audience,
@@ -73,7 +71,6 @@ pub fn sim<K, R, G>(
 where
     K: Sink,
     R: Threads,
-    G: Gate + Send + Sync + 'static,
     // True of every `Workers`. Without a `requires`, rattle refuses a function that passes on an
     // audience.
     requires { IsWorkers workers.now.count }

@@ -18,7 +18,6 @@ use shipped_crews::{ShippedRun, Workers, with_crew};
 use std::alloc::AllocError;
 use std::thread::Threads;
 use stimulus::StimulusFault;
-use worker_pool::Gate;
 
 /// The counts of a run that only `OutOfMemory` can end early.
 fn sim_counts(run: Result<Counts, Stopped<StimulusFault>>) -> Result<Counts, AllocError>
@@ -33,8 +32,8 @@ fn sim_counts(run: Result<Counts, Stopped<StimulusFault>>) -> Result<Counts, All
 
 /// Runs a shipped job over a whole stimulus before an audience. Returns the summary of the record,
 /// which isn't kept.
-pub(crate) fn summarize_run<R, G>(
-    workers: &Workers<'_, R, G>,
+pub(crate) fn summarize_run<R>(
+    workers: &Workers<'_, R>,
     run: ShippedRun,
     number: u64,
     text: Bytes,
@@ -42,7 +41,6 @@ pub(crate) fn summarize_run<R, G>(
 ) -> Result<Summary, AllocError>
 where
     R: Threads,
-    G: Gate + Send + Sync + 'static,
     requires good { IsGoodRun run.kind run.profile }
     requires whole { ending (length run.profile.events) text ≡ Terminated }
     ensures summary { IfOk result (λ summary.

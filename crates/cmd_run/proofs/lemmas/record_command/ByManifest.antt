@@ -41,9 +41,6 @@ pub is-demo_outcome : (p : ProfileValue) (text : List ℕ) → p ≡ demo_profil
 unfolding demo_outcome
 is-demo_outcome p text is = sym (ap (λ q. recorded_by_kind Bank q text) is)
 
--- its job takes its parameters
-pub demo-good : (p : ProfileValue) → p ≡ demo_profile → bad_param Bank p.params (length p.events) ≡ None
-demo-good p is = ap (λ q. bad_param Bank q.params (length q.events)) is
 
 module _ (strict : Bool) (first : ShelfState) (name stimulus : List ℕ) where
   -- the names that are opened, by what the manifest is

@@ -163,7 +163,7 @@ returns-else-command g c =
     c.salvage.ensures.meets c.salvage.ensures.ends c.salvage.ensures.asked (λ t. c.salvage.ensures.asked) c.salvage.ensures.earlier)
 
 pub dispatch_gathered-requires-clause-word : goal.dispatch_gathered-requires-clause-word
-dispatch_gathered-requires-clause-word g c = λ lifetimes bounds. record-of c.args.command.word c.in-Demo.is
+dispatch_gathered-requires-clause-word g c = record-of c.args.command.word c.in-Demo.is
 
 pub returns-in-Demo : goal.returns-in-Demo
 returns-in-Demo g c = c.dispatch_gathered.ensures _

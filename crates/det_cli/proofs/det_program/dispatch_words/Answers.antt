@@ -4,9 +4,9 @@ use Rattle.cli_words.specs.Command.{command_value}
 use Rattle.det_cli.proofs.Joining.{runs-words, refuses}
 use Rattle.det_cli.proofs.det_program.dispatch_words.Goals as goal
 
-pub dispatch_command-requires-clause-range : goal.dispatch_command-requires-clause-range
-dispatch_command-requires-clause-range g c κs lives =
-    c.option_range_law.ensures (texts c.args.words.now) (command_value c.in-Some.command) (sym c.in-Some.ensures)
+pub dispatch_command-requires : goal.dispatch_command-requires
+dispatch_command-requires g c =
+    record { range = c.option_range_law.ensures (texts c.args.words.now) (command_value c.in-Some.command) (sym c.in-Some.ensures) }
 
 pub returns-in-Some : goal.returns-in-Some
 returns-in-Some g c =

@@ -9,7 +9,7 @@ use Rattle.cmd_rerun.proofs.lemmas.rewrite.Meeting.{can-rewrite, header-is, reru
 use Rattle.cmd_rerun.proofs.rewrite.rewrite_record.rewrite_by_crew.Goals as goal
 
 pub with_crew-requires-clause-can : goal.with_crew-requires-clause-can
-with_crew-requires-clause-can g c = λ κs lives.
+with_crew-requires-clause-can g c =
     let original : Original = record { format = c.profile.inside.format; frames = c.args.run.frames } in
     let same = ap (λ (p : ProfileValue). p.format) c.profile.view_is in
     can-rewrite c.args.rewrite original c.args.run.profile _ (g.S.Slots.sees c.args.shelf.now) same c.profile_of_run-profile.ensures

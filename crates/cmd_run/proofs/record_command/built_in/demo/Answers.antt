@@ -1,7 +1,7 @@
 use Rattle.std.proofs.Common.{[]}
 use Rattle.cli_answers.specs.Outcome.{known_bytes}
 use Rattle.run_setup.proofs.Meeting.{meets-as}
-use Rattle.cmd_run.proofs.lemmas.record_command.ByManifest.{is_known-first, is-demo_outcome, demo-good}
+use Rattle.cmd_run.proofs.lemmas.record_command.ByManifest.{is_known-first, is-demo_outcome}
 use Rattle.cmd_run.proofs.record_command.built_in.demo.Goals as goal
 
 pub returns-clause-meets : goal.returns-clause-meets
@@ -10,6 +10,3 @@ returns-clause-meets g c =
     meets-as _ _ _ _ _ _ _ _ (is_known-first first c.args.stimulus.now [])
     (λ is_known. is-demo_outcome c.in-Ok.profile (known_bytes first c.args.stimulus.now) c.in-Ok.ensures) (λ rose. rose)
     c.record_named_stimulus.ensures.meets
-
-pub record_named_stimulus-requires-clause-good : goal.record_named_stimulus-requires-clause-good
-record_named_stimulus-requires-clause-good g c κs lives = demo-good c.in-Ok.profile c.in-Ok.ensures

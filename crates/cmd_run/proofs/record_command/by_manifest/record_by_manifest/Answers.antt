@@ -28,9 +28,6 @@ returns-in-Err-clause-judged g c = λ is_known.
     asked-manifest task.options.strict first task.manifest.now task.stimulus.now _
     (setup_of task.options.strict (known_bytes first task.manifest.now)) c.read_plan.ensures.asked
 
-pub record_named_stimulus-requires-clause-good : goal.record_named_stimulus-requires-clause-good
-record_named_stimulus-requires-clause-good g c κs lives = c.in-Ok.ensures.good
-
 pub returns-clause-ends : goal.returns-clause-ends
 returns-clause-ends g c = ends-record _ c.record_named_stimulus.ensures.ends
 

@@ -3,10 +3,10 @@ use Rattle.cmd_run.proofs.lemmas.sim_command.Simulated.{takes-params, is-whole, 
 use Rattle.cmd_run.proofs.sim_command.sim_lines.sim_text.Goals as goal
 
 pub summarize_run-requires-clause-good : goal.summarize_run-requires-clause-good
-summarize_run-requires-clause-good g c κs lives = takes-params c.args.number c.in_ok-profile.profile c.in_ok-profile.ensures
+summarize_run-requires-clause-good g c = takes-params c.args.number c.in_ok-profile.profile c.in_ok-profile.ensures
 
 pub summarize_run-requires-clause-whole : goal.summarize_run-requires-clause-whole
-summarize_run-requires-clause-whole g c κs lives =
+summarize_run-requires-clause-whole g c =
     is-whole c.args.number c.in_ok-profile.profile c.in_ok-profile.ensures c.in_ok-stimulus.stimulus c.in_ok-stimulus.ensures
 
 pub returns-clause-text : goal.returns-clause-text
