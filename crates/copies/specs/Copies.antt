@@ -140,7 +140,8 @@ IsCounted (Some view) None result old new = (result ≡ None)
     × (new ≡ record old { rows = old.rows + 1; cycles = old.cycles + runs_of view.span.kind })
 
 -- all copies gave these items, and they are counted
-pub record AreCopiesAfter (first now : ShelfState) (given : List Item) (slots : List ℕ) (copies : Copies)
+pub record AreCopiesAfter (first now : ShelfState) (given : List Item) (slots : List ℕ)
+    (copies : Copies)
     : Type 0 where
   pub readers : AreReadersAfter first now given slots (copies.first ∷ copies.others.items)
   pub rows : copies.rows ≡ length given
