@@ -6,17 +6,22 @@ use Rattle.det_io.specs.declared.failure.Failure.{Failure}
 use Rattle.det_io.specs.declared.failure.Failure.TheVariants as failures
 use Rattle.det_io.specs.declared.failure.Stopped.{Stopped}
 use Rattle.det_io.specs.declared.failure.Stopped.TheVariants.{Refused, Failed}
-use Rattle.manifest.specs.declared.manifest_fault.ManifestFault.TheVariants.{TooLong, NotToml, Missing}
+use Rattle.manifest.specs.declared.manifest_fault.ManifestFault.TheVariants.{TooLong, NotToml}
+use Rattle.manifest.specs.declared.manifest_fault.ManifestFault.TheVariants.{Missing}
 use Rattle.manifest.specs.declared.manifest_fault.ManifestFault.TheVariants.{WrongKind, OutOfRange}
-use Rattle.manifest.specs.declared.manifest_fault.ManifestFault.TheVariants.{UnknownKey, DuplicateEvent}
+use Rattle.manifest.specs.declared.manifest_fault.ManifestFault.TheVariants.{UnknownKey}
+use Rattle.manifest.specs.declared.manifest_fault.ManifestFault.TheVariants.{DuplicateEvent}
 use Rattle.manifest.specs.declared.manifest_fault.ManifestFault.TheVariants.{UnknownJob}
 use Rattle.manifest.specs.KeyTexts.{key_text}
 use Rattle.manifest.specs.declared.unknown_key.KeyTable.{KeyTable}
-use Rattle.manifest.specs.declared.unknown_key.KeyTable.TheVariants.{Top, Event, InitNeeds, RunNeeds}
+use Rattle.manifest.specs.declared.unknown_key.KeyTable.TheVariants.{Top, Event, InitNeeds}
+use Rattle.manifest.specs.declared.unknown_key.KeyTable.TheVariants.{RunNeeds}
 use Rattle.manifest.specs.declared.unknown_key.UnknownKey as unknown
 use Rattle.record_grammar.specs.declared.record_fault.Reason.{Reason}
-use Rattle.record_grammar.specs.declared.record_fault.Reason.TheVariants.{Magic, Version, Range, Order}
-use Rattle.record_grammar.specs.declared.record_fault.Reason.TheVariants.{TooMany, Truncated, Trailing}
+use Rattle.record_grammar.specs.declared.record_fault.Reason.TheVariants.{Magic, Version, Range}
+use Rattle.record_grammar.specs.declared.record_fault.Reason.TheVariants.{Order}
+use Rattle.record_grammar.specs.declared.record_fault.Reason.TheVariants.{TooMany, Truncated}
+use Rattle.record_grammar.specs.declared.record_fault.Reason.TheVariants.{Trailing}
 use Rattle.record_grammar.specs.declared.record_fault.RecordFault.{RecordFault}
 use Rattle.cli_answers.specs.declared.status.Status.{Status}
 use Rattle.cli_answers.specs.declared.status.Status.TheVariants as statuses

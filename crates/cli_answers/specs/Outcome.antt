@@ -40,9 +40,9 @@ known_bytes shelf name = unwrap_or (shelf.holds name) []
 abbrev pub HasRisen : SinkRun → Type 0
 HasRisen out = Rose out.faults_before out.faults_after
 
--- A run meets the outcome `wanted`. `failed` gives the answers of failures. `is_known` says that all
--- bytes that the outcome depends on are known, `read_failed` that the count of faults of what is
--- read rose. `out` is what the run did to its sink.
+-- A run meets the outcome `wanted`. `failed` gives the answers of failures. `is_known` says that
+-- all bytes that the outcome depends on are known, `read_failed` that the count of faults of what
+-- is read rose. `out` is what the run did to its sink.
 pub record MeetsBy {A : Type 0} (failed : Failure → A) (wanted : OutcomeIn A)
     (is_known read_failed : Type 0) (out : SinkRun) (answer : A) : Type 0 where
   -- whatever the answer, `out` took a prefix of the bytes

@@ -182,7 +182,8 @@ pub fn long_form(word: &str) -> &str
 }
 
 fn read_two_words<'a>(first: &'a str, second: &'a str) -> Option<Command<'a>>
-    ensures { option_map command_value result ≡ read_long_form (long_form_pair first.now second.now) }
+    ensures { option_map command_value result
+        ≡ read_long_form (long_form_pair first.now second.now) }
 {
     if first == "help" {
         return read_option_pair("--help", second);

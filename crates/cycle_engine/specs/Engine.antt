@@ -62,7 +62,8 @@ module _ {S G E L P : Type 0} (m : Meaning S G E L P) where
   -- the next cycle of an engine, at this time
   abbrev pub next_cycle : EngineState S G E → Option ℕ → Result (Done G E) RefusedAtValue
   next_cycle e time =
-      cycle_result m e.job e.state (windows e.rings) (e.cycles + 1) time (next_time e.cycle_time time)
+      cycle_result m e.job e.state (windows e.rings) (e.cycles + 1) time
+      (next_time e.cycle_time time)
 
   -- its frame, reduced to what the engine's format keeps
   abbrev pub next_frame : EngineState S G E → CycleInput → RunFrame

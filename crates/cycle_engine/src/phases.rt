@@ -74,7 +74,8 @@ impl<'c, J: Job> Passes<'c, J> {
         requires own { All (J.Own self.now.job) (arc_value elements.now) }
         ensures cycle { IsCycle result self.now.seed (elim (all_passes J.meaning self.now.job
             self.now.plan self.now.seed self.now.cycle (arc_value elements.now)) [
-              | Ok last ↦ concluded J.meaning self.now.job globals.now self.now.plan self.now.seed last
+              | Ok last ↦ concluded J.meaning self.now.job globals.now self.now.plan self.now.seed
+                  last
               | Err at ↦ Err at
             ]) }
         ensures own { IfOk result (λ done. All (J.Own self.now.job) (arc_value done.elements)) }

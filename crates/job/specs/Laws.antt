@@ -34,16 +34,18 @@ pub record JobLaws {S G E L P : Type 0} (m : Meaning S G E L P)
   -- both
   pub covers_few : (j : S) (part : P) (n : ℕ) → Covers j part n → n ≤ 65536
   pub covers_unit : (j : S) → Covers j (m.unit_part j) 0
-  pub covers_run : (j : S) (plan : L) (carry : P) (pass : ℕ) (e : E) (key : ℕ) (w : ElementResult E P) →
-      Fit j plan → Own j e → pass < m.passes_of j plan → CoversSome (Covers j) carry
-      → m.worked j plan carry pass e key ≡ Ok w → Covers j w.part 1
+  pub covers_run : (j : S) (plan : L) (carry : P) (pass : ℕ) (e : E) (key : ℕ)
+      (w : ElementResult E P) → Fit j plan → Own j e → pass < m.passes_of j plan
+      → CoversSome (Covers j) carry → m.worked j plan carry pass e key ≡ Ok w
+      → Covers j w.part 1
   pub covers_joined : (j : S) (left right : P) (a b : ℕ) → Covers j left a → Covers j right b
       → a + b ≤ 65536
       → Covers j (m.joined j left right) (a + b)
   -- the elements of a run and of the start are the job's own; a prepared plan is fit
-  pub own_run : (j : S) (plan : L) (carry : P) (pass : ℕ) (e : E) (key : ℕ) (w : ElementResult E P) →
-      Fit j plan → Own j e → pass < m.passes_of j plan → CoversSome (Covers j) carry
-      → m.worked j plan carry pass e key ≡ Ok w → Own j w.element
+  pub own_run : (j : S) (plan : L) (carry : P) (pass : ℕ) (e : E) (key : ℕ)
+      (w : ElementResult E P) → Fit j plan → Own j e → pass < m.passes_of j plan
+      → CoversSome (Covers j) carry → m.worked j plan carry pass e key ≡ Ok w
+      → Own j w.element
   pub own_started : (j : S) (seed : ℕ) → All (Own j) (m.started j seed).elements
   pub fit_prepared : (j : S) (globals : G) (es : List E) (windows : List (List ℤ)) (seed cycle : ℕ)
       (time next : Option ℕ) (p : Preparation L) →

@@ -69,7 +69,8 @@ joined_to join part (Ok w) = Ok (record { element = w.element; part = join part 
 joined_to join part (Err code) = Err code
 
 -- the same for a result together with the part afterwards
-abbrev pub AgreesWithPart : {E P : Type 0} → Result E JobFault → P → Result (ElementResult E P) ℕ → Type 0
+abbrev pub AgreesWithPart : {E P : Type 0} → Result E JobFault → P → Result (ElementResult E P) ℕ
+    → Type 0
 AgreesWithPart (Ok x) part meant = meant ≡ Ok (record { element = x; part = part })
 AgreesWithPart (Err (Code n)) part meant = meant ≡ Err n
 AgreesWithPart (Err OutOfMemory) part meant = Unit {0}

@@ -36,8 +36,8 @@ abbrev pub pass_result_of : {E P : Type 0} → PassDone E P → PassResult E P
 pass_result_of done = record { elements = done.elements; draws = done.draws; part = done.part }
 
 -- the result is that of the pass; only "out of memory" may be returned without a cause here
-abbrev pub IsPass : {E P : Type 0} → Result (PassDone E P) PoolFault → Result (PassResult E P) Refusal
-    → Type 0
+abbrev pub IsPass : {E P : Type 0} → Result (PassDone E P) PoolFault
+    → Result (PassResult E P) Refusal → Type 0
 IsPass (Ok done) pass = pass ≡ Ok (pass_result_of done)
 IsPass (Err (Refused element code)) pass = pass ≡ Err (record { element = element; code = code })
 IsPass (Err OutOfMemory) pass = Unit {0}

@@ -24,7 +24,8 @@ failure_of child (Some status) =
 abbrev pub known_statuses : List (Option ℕ) → Option (List ℕ)
 known_statuses [] = Some []
 known_statuses (None ∷ more) = None
-known_statuses (Some status ∷ more) = option_map (λ statuses. status ∷ statuses) (known_statuses more)
+known_statuses (Some status ∷ more) =
+    option_map (λ statuses. status ∷ statuses) (known_statuses more)
 
 -- what they mean: one that isn't known counts before one that isn't 0
 abbrev pub failure_among : Option (List ℕ) → Option LaneAnswer
@@ -43,8 +44,10 @@ refused_by Truncated bad status =
 refused_by reason bad status = BadRecord bad.copy bad.fault
 
 -- the verdict that is printed, or the answer if none is
-abbrev pub verdict_or_answer : Result Verdict (Stopped BadCopy) → List (Option ℕ) → Result Verdict LaneAnswer
-verdict_or_answer (Ok (Agree cycles)) statuses = unless (failure_among (known_statuses statuses)) (Agree cycles)
+abbrev pub verdict_or_answer : Result Verdict (Stopped BadCopy) → List (Option ℕ)
+    → Result Verdict LaneAnswer
+verdict_or_answer (Ok (Agree cycles)) statuses =
+    unless (failure_among (known_statuses statuses)) (Agree cycles)
 verdict_or_answer (Ok (Differ copy at)) statuses = Ok (Differ copy at)
 verdict_or_answer (Err (Refused bad)) statuses =
     Err (refused_by bad.fault.reason bad (slice_index_or statuses bad.copy None))

@@ -9,7 +9,8 @@ use Rattle.manifest.specs.Tree.{length_of_items}
 use Rattle.manifest.specs.Keys.{Kind, text, any_whole, whole, array_up_to, section, rule, found}
 use Rattle.manifest.specs.declared.key.Key.{Key}
 use Rattle.manifest.specs.declared.manifest_fault.ManifestFault.{ManifestFault}
-use Rattle.manifest.specs.declared.manifest_fault.ManifestFault.TheVariants.{Missing, WrongKind, OutOfRange}
+use Rattle.manifest.specs.declared.manifest_fault.ManifestFault.TheVariants.{Missing, WrongKind}
+use Rattle.manifest.specs.declared.manifest_fault.ManifestFault.TheVariants.{OutOfRange}
 
 abbrev pub unless : Bool → ManifestFault → Option ManifestFault
 unless test fault = if test then None else Some fault

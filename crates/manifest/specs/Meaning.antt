@@ -24,8 +24,10 @@ use Rattle.manifest.specs.declared.key.Key.TheVariants.{Event, EventName, EventC
 use Rattle.manifest.specs.declared.key.Key.TheVariants.{EventPolicy, Platform, InitNeeds, InitNeed}
 use Rattle.manifest.specs.declared.key.Key.TheVariants.{RunNeeds, RunNeed}
 use Rattle.manifest.specs.declared.manifest_fault.ManifestFault.{ManifestFault}
-use Rattle.manifest.specs.declared.manifest_fault.ManifestFault.TheVariants.{TooLong, NotToml, UnknownKey}
-use Rattle.manifest.specs.declared.manifest_fault.ManifestFault.TheVariants.{DuplicateEvent, UnknownJob}
+use Rattle.manifest.specs.declared.manifest_fault.ManifestFault.TheVariants.{TooLong, NotToml}
+use Rattle.manifest.specs.declared.manifest_fault.ManifestFault.TheVariants.{UnknownKey}
+use Rattle.manifest.specs.declared.manifest_fault.ManifestFault.TheVariants.{DuplicateEvent}
+use Rattle.manifest.specs.declared.manifest_fault.ManifestFault.TheVariants.{UnknownJob}
 use Rattle.manifest.specs.declared.manifest_fault.ManifestError.{ManifestError}
 use Rattle.manifest.specs.declared.manifest_fault.ManifestError.TheVariants.{Fault, OutOfMemory}
 use Rattle.manifest.specs.declared.needs.Needs.{Needs}

@@ -9,7 +9,8 @@ use Rattle.manifest.specs.Keys.{found, need_word, all_needs}
 use Rattle.manifest.specs.declared.key.Key.TheVariants as keys
 use Rattle.manifest.specs.declared.unknown_key.UnknownKey.{UnknownKey}
 use Rattle.manifest.specs.declared.unknown_key.KeyTable.{KeyTable}
-use Rattle.manifest.specs.declared.unknown_key.KeyTable.TheVariants.{Top, Event, InitNeeds, RunNeeds}
+use Rattle.manifest.specs.declared.unknown_key.KeyTable.TheVariants.{Top, Event, InitNeeds}
+use Rattle.manifest.specs.declared.unknown_key.KeyTable.TheVariants.{RunNeeds}
 
 -- the names of the keys that a table knows, level by level
 abbrev pub known_words : KeyTable → List (List ℕ)

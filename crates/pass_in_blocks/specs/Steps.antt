@@ -19,7 +19,8 @@ module _ {E P : Type 0} where
   pass_result es ds part = record { elements = es; draws = ds; part = part }
 
   -- the value now is the defined one; only "out of memory" may be returned without a cause here
-  abbrev pub IsAdded : {T : Type 0} → Result T PoolFault → PassResult E P → Result (PassResult E P) Refusal → Type 0
+  abbrev pub IsAdded : {T : Type 0} → Result T PoolFault → PassResult E P
+      → Result (PassResult E P) Refusal → Type 0
   IsAdded (Ok done) now meant = meant ≡ Ok now
   IsAdded (Err (Refused element code)) now meant =
       meant ≡ Err (record { element = element; code = code })

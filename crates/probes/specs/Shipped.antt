@@ -79,8 +79,8 @@ limit_life most seen refused = record {
   report_after = λ runs.
       limit_text (counted (seen + length (take (runs_left most seen + 1) runs)))
       (counted (refused + count_by is_refused (take (runs_left most seen + 1) runs)));
-  runs_before =
-      λ runs. if nat_lt (runs_left most seen) (length runs) then Some (runs_left most seen) else None;
+  runs_before = λ runs.
+      if nat_lt (runs_left most seen) (length runs) then Some (runs_left most seen) else None;
 }
 
 -- how many runs come before the first refused one

@@ -22,8 +22,8 @@ abbrev pub seen : {X : Type 0} {IsProbe : X → Type 0}
     → (DynBox X Global IsProbe → ProbeLife) → Audience X IsProbe → AudienceState
 seen life audience = record { seeing = map life audience.remaining.items; left = audience.left }
 
--- these probes saw a run, in order: `stayed` are those that stayed, and `new_reports` the reports of those
--- that left
+-- these probes saw a run, in order: `stayed` are those that stayed, and `new_reports` the reports
+-- of those that left
 abbrev pub Saw : RunFrame → (probes stayed : List ProbeLife) → (new_reports : List ℕ) → Type 0
 Saw run [] stayed new_reports = (stayed ≡ []) × (new_reports ≡ [])
 Saw run (p ∷ ps) stayed new_reports =

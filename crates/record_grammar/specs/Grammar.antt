@@ -16,7 +16,8 @@ use Rattle.det_values.specs.declared.frames.Frame.TheVariants as frames
 use Rattle.det_values.specs.Values.{SampleValue, EventSpecValue, RefusedAtValue, ProfileValue}
 use Rattle.det_values.specs.Limits.{allowed_in_name}
 use Rattle.record_grammar.specs.declared.record_fault.Reason.{Reason}
-use Rattle.record_grammar.specs.declared.record_fault.Reason.TheVariants.{Magic, Version, Range, Order}
+use Rattle.record_grammar.specs.declared.record_fault.Reason.TheVariants.{Magic, Version, Range}
+use Rattle.record_grammar.specs.declared.record_fault.Reason.TheVariants.{Order}
 use Rattle.record_grammar.specs.declared.record_fault.Reason.TheVariants.{TooMany, Trailing}
 use Rattle.record_grammar.specs.declared.limits.Limits.TheVariants.{Around}
 use Rattle.record_grammar.specs.declared.place.Layout.{Layout}

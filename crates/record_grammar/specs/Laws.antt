@@ -7,7 +7,8 @@ use Rattle.det_values.specs.declared.frames.Frame.TheVariants.{Register, Discove
 use Rattle.det_values.specs.declared.frames.Frame.TheVariants.{Terminate}
 use Rattle.det_values.specs.Values.{ProfileValue}
 use Rattle.record_grammar.specs.declared.record_fault.Reason.{Reason}
-use Rattle.record_grammar.specs.declared.record_fault.Reason.TheVariants.{Magic, Version, Range, TooMany}
+use Rattle.record_grammar.specs.declared.record_fault.Reason.TheVariants.{Magic, Version, Range}
+use Rattle.record_grammar.specs.declared.record_fault.Reason.TheVariants.{TooMany}
 use Rattle.record_grammar.specs.declared.record_fault.Reason.TheVariants.{Trailing}
 use Rattle.record_grammar.specs.declared.record_fault.RecordFault.{RecordFault}
 use Rattle.record_grammar.specs.declared.place.Place.{Place}

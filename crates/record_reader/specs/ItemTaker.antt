@@ -72,7 +72,8 @@ pub record Takes {E : Type 0} (result : Result (Unit {0}) (Stopped E)) (taking :
   pub after : AfterIs result taking given item
 
 -- these items were taken, and the sink took what is written of them
-pub record Took {E : Type 0} (taking : ItemTaker E) (given : List Item) (out : SinkRun) : Type 0 where
+pub record Took {E : Type 0} (taking : ItemTaker E) (given : List Item)
+    (out : SinkRun) : Type 0 where
   pub stands : taking.stands given
   pub grew : Grew out.before out.after (taking.written given)
 

@@ -39,7 +39,8 @@ module _ {S G E L P : Type 0} (m : Meaning S G E L P) (profile : ProfileValue) w
   -- the first runs were shown, after the sink took their frames, and all runs unless the record was
   -- cut off
   pub record IsShown (read : List ℕ) (before after : List ℕ → Type 0)
-      (audience last : AudienceState) (result : Result Counts (Stopped StimulusFault)) : Type 0 where
+      (audience last : AudienceState)
+      (result : Result Counts (Stopped StimulusFault)) : Type 0 where
     pub inputs : List CycleInput
     pub first : IsPrefix inputs (blocks (length profile.events) read)
     pub taken : TookAll inputs before after
@@ -56,7 +57,8 @@ module _ {S G E L P : Type 0} (m : Meaning S G E L P) (profile : ProfileValue) w
       × IsShown read sink.before sink.after audience last result
 
   pub record IsRecorded (slot : ℕ) (shelf : ShelfRun) (sink : SinkRun)
-      (audience last : AudienceState) (result : Result Counts (Stopped StimulusFault)) : Type 0 where
+      (audience last : AudienceState)
+      (result : Result Counts (Stopped StimulusFault)) : Type 0 where
     -- where the rest of the text is known: it was recorded whole, or up to its bad line, or in part
     pub ok : IfSome (shelf.first.left slot) (λ text. IfOk result (λ counts.
         Finishes m profile text counts sink.before sink.after))

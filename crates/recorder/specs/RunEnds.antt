@@ -53,8 +53,8 @@ module _ {S G E L P : Type 0} (m : Meaning S G E L P) (profile : ProfileValue) w
 
   -- The result after these bytes were read. It holds of every text that begins with them. At the
   -- end of the text it holds only of the bytes themselves.
-  pub record Ended (result : Result Counts (Stopped StimulusFault)) (read : List ℕ) (at_end : Type 0)
-      (before after : List ℕ → Type 0) : Type 0 where
+  pub record Ended (result : Result Counts (Stopped StimulusFault)) (read : List ℕ)
+      (at_end : Type 0) (before after : List ℕ → Type 0) : Type 0 where
     pub reads_to : ReadsTo result read at_end before after
     pub answers : (rest : List ℕ) → (at_end → rest ≡ [])
         → Answers result (read ++ rest) before after

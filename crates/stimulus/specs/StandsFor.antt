@@ -21,7 +21,8 @@ bad_reading head given = record { head = head; items = given; is_whole = false; 
 
 -- A reader that found no bad line goes on as if it read everything from the beginning, whatever
 -- comes after.
-abbrev pub Resumes : Option StimulusFault → StimulusParser → List (List ℕ) → List ℕ → List StimulusItem → Type 0
+abbrev pub Resumes : Option StimulusFault → StimulusParser → List (List ℕ) → List ℕ
+    → List StimulusItem → Type 0
 Resumes None r head bytes given =
     (length head ≡ r.lines)
     × ((tail : List ℕ) → reading r.events (bytes ++ tail)
@@ -32,7 +33,8 @@ Resumes (Some fault) r head bytes given =
     × ((tail : List ℕ) → reading r.events (bytes ++ tail) ≡ bad_reading head given)
 
 -- these bytes were fed, and these items returned
-pub record StandsFor (r : StimulusParser) (bytes : List ℕ) (given : List StimulusItem) : Type 0 where
+pub record StandsFor (r : StimulusParser) (bytes : List ℕ)
+    (given : List StimulusItem) : Type 0 where
   -- the good lines that it read
   pub head : List (List ℕ)
   pub resumes : Resumes r.fault r head bytes given
@@ -79,8 +81,8 @@ pub record FoundBad (line events : ℕ) (bytes : List ℕ) (given : List Stimulu
   pub bad : has_bad events bytes ≡ true
   pub ending : ending events bytes ≡ BadLine line
 
-abbrev pub NextIs : Result (Option StimulusItem) StimulusError → StimulusParser → List ℕ → List StimulusItem
-    → Type 0
+abbrev pub NextIs : Result (Option StimulusItem) StimulusError → StimulusParser → List ℕ
+    → List StimulusItem → Type 0
 NextIs (Ok (Some item)) r bytes given =
     StandsFor r bytes (given ++ item ∷ []) × Gives item r.events bytes given
 NextIs (Ok None) r bytes given = StandsFor r bytes given × GaveAll r.events bytes given
@@ -95,7 +97,8 @@ Settles (Err (errors.Bad fault)) r = IsSettled r
 Settles _ r = Unit {0}
 
 -- with each item, fewer can be returned before more is fed
-abbrev pub Falls : Result (Option StimulusItem) StimulusError → StimulusParser → StimulusParser → Type 0
+abbrev pub Falls : Result (Option StimulusItem) StimulusError → StimulusParser → StimulusParser
+    → Type 0
 Falls (Ok (Some item)) old new = waiting new < waiting old
 Falls _ old new = Unit {0}
 

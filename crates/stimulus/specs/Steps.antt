@@ -13,7 +13,8 @@ use Rattle.stimulus.specs.declared.parser.Progress.TheVariants as progress
 use Rattle.stimulus.specs.States.{AfterLineIs}
 use Rattle.stimulus.specs.StandsFor.{StandsFor, NextIs, Settles, waiting}
 
-abbrev pub LineIs : Result Progress StimulusError → StimulusParser → List ℕ → List StimulusItem → Type 0
+abbrev pub LineIs : Result Progress StimulusError → StimulusParser → List ℕ → List StimulusItem
+    → Type 0
 LineIs (Ok (progress.Item item)) r bytes given = NextIs (Ok (Some item)) r bytes given
 LineIs (Ok progress.Line) r bytes given = StandsFor r bytes given
 LineIs (Ok progress.Open) r bytes given = NextIs (Ok None) r bytes given
@@ -44,7 +45,8 @@ abbrev pub Moves : ℕ → ℕ → StimulusParser → StimulusParser → Type 0
 Moves len lines old new =
     Keeps old new × (new.read ≡ old.read + len) × (new.lines ≡ old.lines + lines)
 
-abbrev pub TookIs : Result Progress StimulusError → Line → ℕ → StimulusParser → StimulusParser → Type 0
+abbrev pub TookIs : Result Progress StimulusError → Line → ℕ → StimulusParser → StimulusParser
+    → Type 0
 TookIs (Ok progress.Line) line len old new =
     Moves len 1 old new × AfterLineIs (answers.Line new.state) old.state line
 TookIs (Ok (progress.Item item)) line len old new =

@@ -68,13 +68,15 @@ module _ (twins : TwinsValue) where
   twin_outcome_by_kind kind profile text = by_kind (λ S G E L P m. twin_outcome m profile text) kind
 
   -- the outcome for the manifest's profile with the seed 0, or the refusal of the manifest
-  abbrev pub twin_outcome_by_setup : Result ManifestValue refusals.BadManifest → List ℕ → OutcomeIn TwinAnswer
+  abbrev pub twin_outcome_by_setup : Result ManifestValue refusals.BadManifest → List ℕ
+      → OutcomeIn TwinAnswer
   twin_outcome_by_setup (Ok m) stimulus = twin_outcome_by_kind m.kind (profile_of m 0) stimulus
   twin_outcome_by_setup (Err why) stimulus = refusal (BadManifest why)
 
   abbrev pub twins_outcome : (holds : List ℕ → List ℕ) → OutcomeIn TwinAnswer
   twins_outcome holds =
-      twin_outcome_by_setup (setup_of twins.options.strict (holds twins.manifest)) (holds twins.stimulus)
+      twin_outcome_by_setup
+      (setup_of twins.options.strict (holds twins.manifest)) (holds twins.stimulus)
 
 -- the text that an argument asks for
 abbrev pub text_of : TextWord → List ℕ

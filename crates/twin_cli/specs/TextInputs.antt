@@ -30,8 +30,8 @@ module _ (text : List ℕ) (events : ℕ) where
     pub all : blocks events text ≡ given
     pub good : ending events text ≡ Terminated
 
-  abbrev pub Comes : Result (Option CycleInput) (Stopped StimulusFault) → TextInputs → List CycleInput
-      → Type 0
+  abbrev pub Comes : Result (Option CycleInput) (Stopped StimulusFault) → TextInputs
+      → List CycleInput → Type 0
   Comes (Ok (Some input)) source given = Gives source (given ++ input ∷ [])
   Comes (Ok None) source given = IsWhole given
   Comes (Err (Refused fault)) source given = ending events text ≡ BadLine fault.line

@@ -82,7 +82,8 @@ fn compare_over<R: Threads + Wait + Sync>(
 ) -> Result<Verdict, TwinAnswer>
     requires { IsGood setup.now }
     ensures finds { Finds result
-        (twin_outcome_by_kind (twins_value twins.now) setup.now.kind (profile_of setup.now 0) text) }
+        (twin_outcome_by_kind (twins_value twins.now) setup.now.kind
+        (profile_of setup.now 0) text) }
     ensures reads_nothing { result ≢ Err TwinAnswer.ReadFault }
     ensures writes_nothing { result ≢ Err TwinAnswer.WriteFault }
     ensures words { result ≢ Err TwinAnswer.BadWords }

@@ -15,7 +15,8 @@ use Rattle.copies.specs.CompareCopies.{AreLeft}
 use Rattle.cmd_records.specs.declared.voter.outcome.Dissenter.{Dissenter}
 use Rattle.cmd_records.specs.declared.voter.outcome.NoMajority.{NoMajority}
 use Rattle.cmd_records.specs.declared.voter.outcome.Vote.{Vote}
-use Rattle.cmd_records.specs.voter.Majority.{majority, dissent, common, are_held, spelled_items, voted}
+use Rattle.cmd_records.specs.voter.Majority.{majority, dissent, common, are_held, spelled_items}
+use Rattle.cmd_records.specs.voter.Majority.{voted}
 
 -- more than half of the copies are one whole record, which the sink took
 pub record Elects (vote : Vote) (copies : List (List ℕ)) (out : SinkRun) : Type 0 where

@@ -29,7 +29,8 @@ use Rattle.jobs.specs.declared.cloud.cloud_job.Finished.{Finished}
 use Rattle.jobs.specs.declared.cloud.steps.Step.{Step}
 use Rattle.jobs.specs.cloud.Steps.{lands, try_of, landing_from, landing, step_of, words_drawn}
 use Rattle.jobs.specs.cloud.Meaning.{meaning, first_particle, first_particles, target_of, is_held}
-use Rattle.jobs.specs.cloud.Meaning.{seed_of, distance, coordinate_after, particle_after_step, particle_after_pull, after_pass, best_of}
+use Rattle.jobs.specs.cloud.Meaning.{seed_of, distance, coordinate_after, particle_after_step}
+use Rattle.jobs.specs.cloud.Meaning.{particle_after_pull, after_pass, best_of}
 use Rattle.jobs.specs.cloud.Meaning.{drawn, is_better, better, is_far, one_more, output}
 use Rattle.jobs.specs.cloud.Meaning.{shown}
 use Rattle.jobs.specs.cloud.Ranges.{IsPlace, Own, Fit, IsBestOf, Covers}
@@ -88,8 +89,8 @@ own_either : (j : Cloud) (t : Bool) (a b : Particle) → Own j a → Own j b →
 own_either j true a b h k = h
 own_either j false a b h k = k
 
-own_pulled : (j : Cloud) (carry : Option Best) (e : Particle) (w n : ℕ) → covers_by IsBestOf carry n →
-    Own j e → Own j (particle_after_pull carry e w)
+own_pulled : (j : Cloud) (carry : Option Best) (e : Particle) (w n : ℕ)
+    → covers_by IsBestOf carry n → Own j e → Own j (particle_after_pull carry e w)
 own_pulled j None e w n h own = own
 own_pulled j (Some b) e w n h own = own_either j (nat_eq (w % 8) 0) e _ own (record {
   number = own.number;

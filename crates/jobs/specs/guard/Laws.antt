@@ -28,9 +28,10 @@ use Rattle.jobs.specs.guard.Meaning.{shown}
 use Rattle.jobs.specs.guard.Ranges.{Own, Fit, IsPartOf, Covers}
 
 -- a fact about both results of a choice is a fact about its result
-chosen : (P : ElementResult Channel (List ℕ) → Type 0) (b c : Bool) (x y w : ElementResult Channel (List ℕ)) →
-    P x → (c ≡ false → P y)
-    → ◌≡◌ {A = Result (ElementResult Channel (List ℕ)) ℕ} (cond b (Ok x) (cond c (Err 1) (Ok y))) (Ok w)
+chosen : (P : ElementResult Channel (List ℕ) → Type 0) (b c : Bool)
+    (x y w : ElementResult Channel (List ℕ)) → P x → (c ≡ false → P y)
+    → ◌≡◌ {A = Result (ElementResult Channel (List ℕ)) ℕ}
+    (cond b (Ok x) (cond c (Err 1) (Ok y))) (Ok w)
     → P w
 chosen P true c x y w px py h = ok_has P h px
 chosen P false true x y w px py h = cc
@@ -46,8 +47,8 @@ part_judged j e (Some v) w h =
     (record { most = omega arith; few = omega arith })
     (λ _. record { most = omega arith; few = omega arith }) h
 
-own_judged : (j : Guard) (e : Channel) (r : Option ℤ) (w : ElementResult Channel (List ℕ)) → IsSample r →
-    Own j e → channel_after j e r ≡ Ok w → Own j w.element
+own_judged : (j : Guard) (e : Channel) (r : Option ℤ) (w : ElementResult Channel (List ℕ))
+    → IsSample r → Own j e → channel_after j e r ≡ Ok w → Own j w.element
 own_judged j e None w ok own h =
     ok_has (λ (x : ElementResult Channel (List ℕ)). Own j x.element) h own
 own_judged j e (Some v) w ok own h =
@@ -103,8 +104,8 @@ length-output total part next few =
     let last = length-next_bytes next in
     omega (arith, length-append (flat_map u32_bytes part) (next_bytes next))
 
-output_by : (b : Bool) (j : Guard) (g : Total) (plan : Plan) (part : List ℕ) (d : Conclusion Total) →
-    b ≡ ltb j.most (length part)
+output_by : (b : Bool) (j : Guard) (g : Total) (plan : Plan) (part : List ℕ)
+    (d : Conclusion Total) → b ≡ ltb j.most (length part)
     → ◌≡◌ {A = Result (Conclusion Total) ℕ} (cond b (Err 2)
     (Ok (record {
       globals = record { corrections = total_after g part };

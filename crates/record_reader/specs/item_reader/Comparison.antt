@@ -21,8 +21,8 @@ IsOther view bytes read given = (item : Item) (others : List Item) → IsSpellin
 
 -- The equal item counts as returned, or the next item is returned. That one differs, if the other
 -- record's item is of the place in which the reader was.
-abbrev pub ComparisonIs : Result Comparison (Stopped RecordFault) → ItemView → List ℕ → Place → ItemReader
-    → Type 0 → List ℕ → List Item → Type 0
+abbrev pub ComparisonIs : Result Comparison (Stopped RecordFault) → ItemView → List ℕ → Place
+    → ItemReader → Type 0 → List ℕ → List Item → Type 0
 ComparisonIs (Ok likes.Same) view bytes place r at_end read given =
     (item : Item) → IsSpelling view item bytes → StandsFor r read (given ++ item ∷ [])
 ComparisonIs (Ok (likes.Other row)) view bytes place r at_end read given =

@@ -41,7 +41,8 @@ module _ {S G E L P : Type 0} where
       pub counts : recording.counts ≡ record { cycles = 0; refused = 0; bytes = 0 }
 
     -- its engine has run these inputs, and the record of their run was written except for its end
-    pub record IsRecordingAfter (recording : Recording S G E L P) (given : List CycleInput) : Type 0 where
+    pub record IsRecordingAfter (recording : Recording S G E L P)
+        (given : List CycleInput) : Type 0 where
       pub engine : EngineStands m recording.profile recording.engine given
       pub going : recording.engine.stopped ≡ false
       pub counts : Counted recording.counts (runs m recording.profile given)

@@ -50,6 +50,7 @@ module _ {S G E L P : Type 0} (m : Meaning S G E L P) where
   rerun_frame profile before frame = frame
 
   -- its engine has run these inputs, whatever was written
-  pub record IsEngineAfter (recording : Recording S G E L P) (given : List CycleInput) : Type 0 where
+  pub record IsEngineAfter (recording : Recording S G E L P)
+      (given : List CycleInput) : Type 0 where
     pub engine : EngineStands m recording.profile recording.engine given
     pub going : recording.engine.stopped ≡ false

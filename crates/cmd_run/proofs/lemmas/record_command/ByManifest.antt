@@ -1,6 +1,6 @@
 -- The outcomes of `demo` and `record` are those of their profiles.
-use Rattle.std.proofs.Common.{◌≡◌, ℕ, Bool, List, [], ◌∷◌, length, refl, sym, ap, subst, ◌∙◌, arith}
-use Rattle.std.specs.Prelude.{Option, Some, None, Result, Ok, Err, IsSome}
+use Rattle.std.proofs.Common.{◌≡◌, ℕ, Bool, List, [], ◌∷◌, refl, sym, ap, subst, ◌∙◌, arith}
+use Rattle.std.specs.Prelude.{Option, Some, Result, Ok, Err, IsSome}
 use Rattle.std.specs.Option.{unwrap_or}
 use Rattle.det_values.specs.Values.{ProfileValue}
 use Rattle.det_io.specs.Shelf.{ShelfState, Asks, AsksPrefix}
@@ -11,7 +11,6 @@ use Rattle.det_io.specs.declared.failure.Stopped.TheVariants.{Refused, Failed}
 use Rattle.det_io.proofs.Opening.{asks-all, asks-prefix-none, asks-then-prefix}
 use Rattle.det_values.specs.declared.job_kind.JobKind.{JobKind}
 use Rattle.det_values.specs.declared.job_kind.JobKind.TheVariants.{Bank}
-use Rattle.jobs.specs.Kinds.{bad_param}
 use Rattle.manifest.specs.Values.{ManifestValue}
 use Rattle.manifest.specs.Profiles.{profile_of}
 use Rattle.cli_answers.specs.Answers.{without_manifest}
@@ -40,7 +39,6 @@ is_known-second shelf first name names t = t 1 name (omega arith)
 pub is-demo_outcome : (p : ProfileValue) (text : List ℕ) → p ≡ demo_profile → demo_outcome text ≡ recorded_by_kind Bank p text
 unfolding demo_outcome
 is-demo_outcome p text is = sym (ap (λ q. recorded_by_kind Bank q text) is)
-
 
 module _ (strict : Bool) (first : ShelfState) (name stimulus : List ℕ) where
   -- the names that are opened, by what the manifest is
