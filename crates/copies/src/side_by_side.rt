@@ -13,9 +13,10 @@ use std::alloc::Global;
 /// Compares the copies of a record in these slots, row by row. A row is the header, a frame, or the
 /// end of the record.
 ///
-/// A difference is reported once all copies were read at its row. A fault is reported at once:
 /// `Refused` has the least copy with a fault in the first row in which not all hold an equal item.
-/// While the copies agree, only the item of copy 0 is held in memory.
+/// The contract leaves open when it is found, and with how much memory. This code reports a fault at
+/// once, and a difference once all copies were read at its row. While the copies agree, it holds
+/// only the item of copy 0.
 pub fn compare<S: Slots>(
     alloc: Global,
     shelf: &mut S,

@@ -250,7 +250,7 @@ impl<J: Job> Engine<J> {
     ///
     /// The windows of the cycle hold only samples of earlier cycles. The input's samples arrive at
     /// its end, even if it is refused. A refused cycle keeps globals, elements and seed, and counts
-    /// as a cycle. After `OutOfMemory` the engine is as before the call, and the input is lost.
+    /// as a cycle. After `AllocError` the engine is as before the call, and the input is lost.
     pub fn cycle<P: Pool<J>>(
         &mut self,
         desk: &mut Desk<J>,

@@ -161,10 +161,7 @@ where
 }
 
 /// The workers of a command whose number is given or else 1.
-pub(crate) fn workers_by_option<'h, R>(
-    host: &Host<'h, R>,
-    given: Option<u32>,
-) -> Workers<'h, R>
+pub(crate) fn workers_by_option<'h, R>(host: &Host<'h, R>, given: Option<u32>) -> Workers<'h, R>
     requires { IfSome given IsWorkers }
     ensures { result.count ≡ unwrap_or given 1 }
 {

@@ -14,7 +14,7 @@ use std::alloc::{AllocError, Global};
 use std::mem::swap;
 
 /// Replaces `input` by that of a Run frame, and reuses its memory. Returns false for a frame of
-/// another kind. After `OutOfMemory` a part of the samples may be there.
+/// another kind. After `AllocError` a part of the samples may be there.
 pub fn fill_input(input: &mut CycleInput, view: FrameView, bytes: &[u8]) -> Result<bool, AllocError>
     requires { (frame : Frame) × IsFrameSpelling view frame bytes.now }
     ensures { (frame : Frame) → IsFrameSpelling view frame bytes.now
@@ -51,7 +51,7 @@ impl RunRoom {
     }
 
     /// Replaces the run by that of a Run frame. Returns false for a frame of another kind. After
-    /// `OutOfMemory` the run is that of no frame.
+    /// `AllocError` the run is that of no frame.
     pub fn fill(&mut self, view: FrameView, bytes: &[u8]) -> Result<bool, AllocError>
         requires { (frame : Frame) × IsFrameSpelling view frame bytes.now }
         ensures { (frame : Frame) → IsFrameSpelling view frame bytes.now

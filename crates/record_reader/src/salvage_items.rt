@@ -15,9 +15,9 @@ use record_grammar::RecordFault;
 use std::alloc::Global;
 
 /// Writes the record of a reader, cut after its last whole frame and completed by Terminate. Each
-/// item is written as it was read, once it is whole. Nothing is written before Init was read, and
-/// only what comes before Init is kept in memory besides the reader. `Refused` has the fault of a
-/// record that breaks off before its Init.
+/// item is written as it was read. Nothing is written of a record that breaks off before its Init,
+/// and `Refused` has the fault of such a record. Besides the reader, this code keeps only what comes
+/// before Init in memory, and it writes an item once it is whole (neither is a clause).
 pub fn salvage_record<S: Slots, K: Sink>(
     alloc: Global,
     reader: &mut ItemReader,

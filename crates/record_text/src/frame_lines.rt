@@ -245,7 +245,7 @@ fn put_frame(out: &mut Vec<u8>, cycle: u32, view: FrameView, bytes: &[u8]) -> Re
 }
 
 /// Appends the lines of a frame. If it is a Run frame, it is that of cycle `cycle`, counted from 1.
-/// After `OutOfMemory` a part of the lines may be there.
+/// After `AllocError` a part of the lines may be there.
 pub fn put_frame_lines(
     out: &mut Vec<u8>,
     cycle: u32,

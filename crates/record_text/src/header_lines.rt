@@ -107,7 +107,7 @@ fn put_front_lines(out: &mut Vec<u8>, profile: &Profile) -> Result<(), AllocErro
 }
 
 /// Appends the lines of a header. They give its format if that is 2, the job's number, the seed,
-/// the cycle time in nanoseconds, the parameters and the events. After `OutOfMemory` a part of the
+/// the cycle time in nanoseconds, the parameters and the events. After `AllocError` a part of the
 /// lines may be there.
 pub fn put_header_lines(out: &mut Vec<u8>, profile: &Profile) -> Result<(), AllocError>
     ensures { OnOk result (out.new.items ≡ out.old.items ++ header_lines profile.now) }

@@ -26,7 +26,7 @@ fn put_digest_line(out: &mut Vec<u8>, digest: &[u8]) -> Result<(), AllocError>
     Ok(())
 }
 
-/// Appends the lines of a summary. After `OutOfMemory` a part of the lines may be there.
+/// Appends the lines of a summary. After `AllocError` a part of the lines may be there.
 pub fn put_summary_lines(out: &mut Vec<u8>, summary: &Summary) -> Result<(), AllocError>
     ensures { OnOk result (out.new.items ≡ out.old.items ++ summary_lines summary.now) }
 {
@@ -38,7 +38,7 @@ pub fn put_summary_lines(out: &mut Vec<u8>, summary: &Summary) -> Result<(), All
     Ok(())
 }
 
-/// Appends the line of a salvaged record with `cycles` cycles. After `OutOfMemory` a part of it may
+/// Appends the line of a salvaged record with `cycles` cycles. After `AllocError` a part of it may
 /// be there.
 pub fn put_salvaged_line(out: &mut Vec<u8>, cycles: u32) -> Result<(), AllocError>
     ensures { OnOk result (out.new.items ≡ out.old.items ++ number_line (codes "salvaged") cycles) }

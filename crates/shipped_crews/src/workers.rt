@@ -45,10 +45,7 @@ pub struct Workers<'r, R> {
 
 /// As many of the workers as there are blocks of elements, and never fewer than one. A worker
 /// beyond them isn't started and passes no gate.
-pub(crate) fn workers_needed<'r, R>(
-    workers: &Workers<'r, R>,
-    elements: usize,
-) -> Workers<'r, R>
+pub(crate) fn workers_needed<'r, R>(workers: &Workers<'r, R>, elements: usize) -> Workers<'r, R>
     requires { elements ≤ 65536 }
     ensures { result.count ≡ max (min workers.now.count (blocks_of elements)) 1 }
 {

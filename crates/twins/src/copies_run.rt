@@ -23,7 +23,7 @@ use std::thread::Threads;
 /// for all copies, they take turns of that many rows. After a row that differs no further row is
 /// started.
 ///
-/// A copy that runs out of memory stops sending, and the result is `OutOfMemory`. It isn't promised
+/// A copy that runs out of memory stops sending, and the result is `AllocError`. It isn't promised
 /// that copies run at the same time.
 pub fn run_twins<J, T, R>(
     rt: &R,

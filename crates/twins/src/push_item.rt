@@ -1,4 +1,4 @@
-//! Appending to a list, with `OutOfMemory` as the error.
+//! Appending to a list, with `AllocError` as the error.
 ghost use Rattle.std.specs.Prelude.{◌≡◌, ◌++◌, ◌∷◌, [], OnOk};
 
 use std::alloc::AllocError;

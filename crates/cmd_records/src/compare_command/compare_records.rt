@@ -45,8 +45,8 @@ fn print_verdict<K: Sink>(alloc: Global, verdict: Verdict, out: &mut K) -> Answe
 /// Prints whether the records under these names are equal and whole, or the first place where they
 /// differ.
 ///
-/// All names are opened in their order before the first record is read. If a record has a fault at
-/// that place, the answer reports the fault and nothing is printed.
+/// All names are opened in their order, and before the first record is read (which no clause says).
+/// If a record has a fault at that place, the answer reports the fault and nothing is printed.
 pub fn compare<S: Shelf, K: Sink>(
     alloc: Global,
     recorded: &[&str],

@@ -33,9 +33,9 @@ fn vote_answer(voted: Result<Vote, Stopped<NoMajority>>) -> Answer
 
 /// Writes the record of the majority of the records under these names, row by row as they are read.
 ///
-/// All names are opened in their order before the first record is read. If more than half of the
-/// records aren't one whole record, the rows that more than half have in common are written. If a
-/// read fails, all rows that were voted are written.
+/// All names are opened in their order, and before the first record is read (which no clause says).
+/// If more than half of the records aren't one whole record, the rows that more than half have in
+/// common are written. If a read fails, all rows that were voted are written.
 pub fn vote<S: Shelf, K: Sink>(
     alloc: Global,
     recorded: &[&str],

@@ -15,9 +15,9 @@ use std::alloc::Global;
 /// Votes the copies of a record in these slots into one, row by row.
 ///
 /// A row is the header, a frame, or how the record ends. A fault equals nothing. Each row that more
-/// than half of all copies hold after equal rows is written as it is read. A copy that differs from
-/// it isn't read further. At most one row of each copy is held in memory at a time, in the bytes in
-/// which it was read.
+/// than half of all copies hold after equal rows is written. The contract leaves open when and with
+/// how much memory. This code writes a row as it is read, reads no further in a copy that differs
+/// from it, and holds at most one row of each copy, in the bytes in which it was read.
 ///
 /// `Refused` has the first row that not more than half of the copies hold. What was written before
 /// it stays written.

@@ -1,4 +1,5 @@
--- What `replay` and `upgrade` give for the bytes of a record, and what rewriting by a crew requires.
+-- What `replay` and `upgrade` give for the bytes of a record, and what rewriting by a crew
+-- requires.
 use Rattle.std.specs.Prelude.{◌≡◌, ℕ, List, Bool, true, false}
 use Rattle.det_values.specs.Values.{ProfileValue}
 use Rattle.det_values.specs.declared.job_kind.JobKind.{JobKind}

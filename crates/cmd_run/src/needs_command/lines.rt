@@ -78,7 +78,7 @@ fn put_needs(out: &mut Vec<u8>, word: &str, needs: Option<&Needs>) -> Result<(),
 
 /// Appends the lines of a manifest: its job, its cycle time in nanoseconds, its workers, its
 /// platform, and the needs of an initialisation and of a run. Speedups are in thousandths. At
-/// `OutOfMemory` some of the lines may have been appended.
+/// `AllocError` some of the lines may have been appended.
 pub(crate) fn put_needs_lines(out: &mut Vec<u8>, manifest: &Manifest) -> Result<(), AllocError>
     ensures { OnOk result (out.new.items ≡ out.old.items ++ needs_lines manifest.now) }
 {

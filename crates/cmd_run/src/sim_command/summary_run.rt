@@ -19,7 +19,7 @@ use std::alloc::AllocError;
 use std::thread::Threads;
 use stimulus::StimulusFault;
 
-/// The counts of a run that only `OutOfMemory` can end early.
+/// The counts of a run that only `AllocError` can end early.
 fn sim_counts(run: Result<Counts, Stopped<StimulusFault>>) -> Result<Counts, AllocError>
     requires { IfErr run (λ why. why ≡ Stopped.Failed Failure.OutOfMemory) }
     ensures { IfOk result (λ counts. run ≡ Ok counts) }

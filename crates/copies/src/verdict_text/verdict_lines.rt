@@ -22,7 +22,7 @@ fn put_element(out: &mut Vec<u8>, cycle: u32, element: u32) -> Result<(), AllocE
     put_numbered(out, " ", element)
 }
 
-/// Appends a place. At `OutOfMemory` a part of it may have been appended.
+/// Appends a place. At `AllocError` a part of it may have been appended.
 pub fn put_difference_place(out: &mut Vec<u8>, place: Difference) -> Result<(), AllocError>
     ensures { OnOk result (out.new.items ≡ out.old.items ++ place_text place) }
 {

@@ -28,8 +28,9 @@ pub struct RecordedRun {
     pub frames: FrameReader,
 }
 
-/// Opens the name of a record and reads its header. Pieces of up to 65,536 bytes are read until the
-/// header is whole or has a fault. `Failed` has `Read` if the shelf fails to open or to read.
+/// Opens the name of a record and reads its header, until that is whole or has a fault. It reads in
+/// pieces of up to 65,536 bytes, which no clause says. `Failed` has `Read` if the shelf fails to
+/// open or to read.
 pub fn open_recorded_run<S: Shelf>(
     alloc: Global,
     recorded: &str,
