@@ -56,28 +56,13 @@ pub(crate) fn in_pool(pass: u8, fault: PoolFault) -> CycleFault
     }
 }
 
-/// The fault of a cycle, from a fault of its sequential begin.
-pub(crate) fn in_prepare(fault: JobFault) -> CycleFault
-    ensures { JobEnds Phase.Prepare fault result }
+/// The fault of a cycle, from a job's fault in a phase outside the pool.
+pub(crate) fn in_job(phase: Phase, fault: JobFault) -> CycleFault
+    ensures { JobEnds phase fault result }
 {
     match fault {
         JobFault::Code(code) => CycleFault::Refused(RefusedAt {
-            phase: Phase::Prepare,
-            pass: 0,
-            element: 0,
-            code,
-        }),
-        JobFault::OutOfMemory => CycleFault::OutOfMemory,
-    }
-}
-
-/// The fault of a cycle, from a fault of its sequential end.
-pub(crate) fn in_conclude(fault: JobFault) -> CycleFault
-    ensures { JobEnds Phase.Conclude fault result }
-{
-    match fault {
-        JobFault::Code(code) => CycleFault::Refused(RefusedAt {
-            phase: Phase::Conclude,
+            phase,
             pass: 0,
             element: 0,
             code,

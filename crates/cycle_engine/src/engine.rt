@@ -16,7 +16,7 @@ ghost use Rattle.cycle_engine.specs.Frames.{frame_of, state_of};
 ghost use Rattle.cycle_engine.specs.Engine.{StandsFor, EngineState, IsAfter};
 ghost use Rattle.cycle_engine.specs.Engine.{next_cycle, next_frame};
 
-use crate::cycle_fault::{CycleFault, in_prepare};
+use crate::cycle_fault::{CycleFault, in_job};
 use crate::desk::Desk;
 use crate::element_bytes::put_element;
 use crate::passes::Passes;
@@ -24,8 +24,8 @@ use crate::phases::CycleDone;
 use crate::shared_place::new_shared;
 use det_client::{Client, Next};
 use det_values::{
-    Bytes64, Container, CycleInput, Elements, Format, Frame, Outcome, Profile, RunFrame, Sample,
-    reduce_to_format,
+    Bytes64, Container, CycleInput, Elements, Format, Frame, Outcome, Phase, Profile, RunFrame,
+    Sample, reduce_to_format,
 };
 use job::event_cache::EventCache;
 use job::{Job, Pool};
@@ -188,7 +188,7 @@ impl<J: Job> Engine<J> {
             &mut desk.plans.spare,
         ) {
             Ok(plan) => plan,
-            Err(fault) => return Err(in_prepare(fault)),
+            Err(fault) => return Err(in_job(Phase::Prepare, fault)),
         };
         let plan = desk.share_plan(plan)?;
         let passes = Passes {

@@ -1,8 +1,8 @@
-//! The passes of one cycle, one after another on a pool.
+//! The first pass of a cycle on a pool, and each later one.
 ghost use Rattle.std.specs.Prelude.{◌≡◌, ℕ, ◌+◌, ◌*◌, ◌<◌, ◌≤◌, ◌⊎◌, [], length, IfOk, IfErr};
 ghost use Rattle.std.specs.List.{All};
 ghost use Rattle.std.specs.Arc.{arc_value};
-ghost use Rattle.job.specs.Cycle.{first_pass, next_pass, all_passes, shown_with};
+ghost use Rattle.job.specs.Cycle.{first_pass, next_pass, shown_with};
 ghost use Rattle.job.specs.Laws.{CoversSome};
 ghost use Rattle.job.specs.Pass.{passed};
 ghost use Rattle.job.specs.Passes.{IsPass, RefusedBelow, drawn_so_far};
@@ -124,7 +124,7 @@ impl<'c, J: Job> Passes<'c, J> {
     }
 
     /// Runs pass 0, which carries the unit.
-    fn first<P: Pool<J>>(
+    pub(crate) fn first<P: Pool<J>>(
         &self,
         pool: &mut P,
         elements: &Arc<Container<J::Element>, Global>,
@@ -171,7 +171,7 @@ impl<'c, J: Job> Passes<'c, J> {
 
     /// Runs a later pass over the elements of the pass before, whose part it carries. Its draws are
     /// added to those so far.
-    fn next<P: Pool<J>>(
+    pub(crate) fn next<P: Pool<J>>(
         &self,
         pool: &mut P,
         number: u8,
@@ -221,32 +221,5 @@ impl<'c, J: Job> Passes<'c, J> {
                 Err(in_pool(number, fault))
             }
         }
-    }
-
-    /// Runs all passes of the plan. The draws of an element are those of all passes together.
-    pub(crate) fn run<P: Pool<J>>(
-        &self,
-        pool: &mut P,
-        elements: &Arc<Container<J::Element>, Global>,
-        desk: &mut Desk<J>,
-    ) -> Result<PassesDone<J::Element, J::Part>, CycleFault>
-        requires few { length (arc_value elements.now) ≤ 65536 }
-        requires own { All (J.Own self.now.job) (arc_value elements.now) }
-        ensures passes { ArePasses result (all_passes J.meaning self.now.job self.now.plan
-            self.now.seed self.now.cycle (arc_value elements.now)) }
-        ensures own { IfOk result (λ done. All (J.Own self.now.job) done.elements) }
-        ensures many { IfOk result (λ done. length done.elements
-            ≡ length (arc_value elements.now)) }
-        ensures drew { IfOk result (λ done. length done.draws ≡ length done.elements) }
-        ensures covers { IfOk result (λ done.
-            J.Covers self.now.job done.part (length done.elements)) }
-        ensures shown { IfOk result (λ done.
-            done.shown ≡ shown_with J.meaning self.now.job done.elements done.draws) }
-    {
-        let mut done = self.first(pool, elements, desk)?;
-        for number in 1..self.job.passes(&**self.plan) {
-            done = self.next(pool, number, done, desk)?;
-        }
-        Ok(done)
     }
 }

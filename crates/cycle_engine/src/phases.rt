@@ -5,10 +5,10 @@ ghost use Rattle.std.specs.Arc.{arc_value};
 ghost use Rattle.job.specs.Cycle.{all_passes, concluded, shown_with};
 ghost use Rattle.cycle_engine.specs.PhaseResults.{IsCycle, left_by};
 
-use crate::cycle_fault::{CycleFault, in_conclude};
+use crate::cycle_fault::{CycleFault, in_job};
 use crate::desk::Desk;
 use crate::passes::{Passes, PassesDone};
-use det_values::{Bytes, Container, DrawnElements};
+use det_values::{Bytes, Container, DrawnElements, Phase};
 use job::{Job, Pool};
 use std::alloc::Global;
 use std::sync::Arc;
@@ -56,13 +56,14 @@ pub(crate) fn conclude_cycle<J: Job>(
         Err(fault) => {
             desk.room.elements.keep(last.elements);
             desk.room.keep_frame(last.shown);
-            Err(in_conclude(fault))
+            Err(in_job(Phase::Conclude, fault))
         }
     }
 }
 
 impl<'c, J: Job> Passes<'c, J> {
-    /// Runs all passes over these elements, and the sequential end.
+    /// Runs all passes of the plan over these elements, and the sequential end. The draws of an
+    /// element are those of all passes together.
     pub(crate) fn cycle<P: Pool<J>>(
         &self,
         pool: &mut P,
@@ -81,7 +82,10 @@ impl<'c, J: Job> Passes<'c, J> {
         ensures own { IfOk result (λ done. All (J.Own self.now.job) (arc_value done.elements)) }
         ensures few { IfOk result (λ done. length (arc_value done.elements) ≤ 65536) }
     {
-        let last = self.run(pool, elements, desk)?;
-        conclude_cycle(self, globals, last, desk)
+        let mut done = self.first(pool, elements, desk)?;
+        for number in 1..self.job.passes(&**self.plan) {
+            done = self.next(pool, number, done, desk)?;
+        }
+        conclude_cycle(self, globals, done, desk)
     }
 }

@@ -1,7 +1,7 @@
 use Rattle.std.proofs.Common.{◌≡◌, suc, ◌+◌, ◌-◌, Ok, ◌∙◌, ap, arith}
 use Rattle.job.specs.Cycle.{passes_on}
 use Rattle.cycle_engine.specs.PhaseResults.{left_by}
-use Rattle.cycle_engine.proofs.passes.Passes.run.Goals as goal
+use Rattle.cycle_engine.proofs.passes.Passes.cycle.Goals as goal
 
 pub loop-number-preserved : goal.loop-number-preserved
 loop-number-preserved g c =

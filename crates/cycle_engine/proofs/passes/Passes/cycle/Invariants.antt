@@ -3,7 +3,7 @@ use Rattle.std.specs.List.{All}
 use Rattle.std.specs.Arc.{arc_value}
 use Rattle.cycle_engine.specs.PhaseResults.{left_by}
 use Rattle.job.specs.Cycle.{all_passes, passes_on, shown_with}
-use Rattle.cycle_engine.proofs.passes.Passes.run.Given as goal
+use Rattle.cycle_engine.proofs.passes.Passes.cycle.Given as goal
 
 abbrev pub invariant-loop-number : goal.invariant-loop-number
 invariant-loop-number g l = let b = g.J.Job in let s = l.self in let job = s.job in let plan = s.plan in record {
