@@ -32,14 +32,8 @@ can_end work other = true
 
 -- a command that reads no file
 abbrev pub reads_nothing : Work
-reads_nothing = record {
-  manifest = false;
-  stimulus = false;
-  recorded = false;
-  reruns = false;
-  compares = false;
-  votes = false;
-}
+reads_nothing = record
+    { manifest = false; stimulus = false; recorded = false; reruns = false; compares = false; votes = false }
 
 -- a command that reads records
 abbrev pub reads_records : Work

@@ -48,8 +48,7 @@ row command.Record = row_of (codes "record") File 2 2
 row command.Replay = row_of (codes "replay") File 1 1 (record NO_OPTIONS { workers = true })
 row command.Check = row_of (codes "check") File 1 1 (record NO_OPTIONS { workers = true })
 row command.Compare = row_of (codes "compare") File 2 8 NO_OPTIONS
-row command.Show =
-    row_of (codes "show") File 1 1 (record NO_OPTIONS { cycle = true; reports = true })
+row command.Show = row_of (codes "show") File 1 1 (record NO_OPTIONS { cycle = true; reports = true })
 row command.Needs = row_of (codes "needs") File 1 1 (record NO_OPTIONS { strict = true })
 row command.Sim = row_of (codes "sim") Number 1 1 (record NO_OPTIONS { workers = true })
 row command.Salvage = row_of (codes "salvage") File 1 1 (record NO_OPTIONS { reports = true })

@@ -33,8 +33,7 @@ module _ {S G E L P : Type 0} (m : Meaning S G E L P) (profile : ProfileValue) w
   -- only samples of those.
   abbrev pub cycle_of : List CycleInput → State G E → CycleInput → Result (Done G E) RefusedAtValue
   cycle_of before state input =
-      cycle_result m job_of state (windows_after profile.events (samples_of before))
-      (length before + 1)
+      cycle_result m job_of state (windows_after profile.events (samples_of before)) (length before + 1)
       input.time (next_time profile.cycle_time input.time)
 
   -- its frame, reduced to what the profile's format keeps
@@ -48,16 +47,14 @@ module _ {S G E L P : Type 0} (m : Meaning S G E L P) (profile : ProfileValue) w
   unfoldable pub state_after_inputs : List CycleInput → State G E → List CycleInput → State G E
   state_after_inputs before state [] = state
   state_after_inputs before state (input ∷ inputs) =
-      state_after_inputs (before ++ input ∷ [])
-      (state_after state (cycle_of before state input)) inputs
+      state_after_inputs (before ++ input ∷ []) (state_after state (cycle_of before state input)) inputs
 
   -- the frames of these inputs, which come after others
   unfoldable pub runs_after_inputs : List CycleInput → State G E → List CycleInput → List RunFrame
   runs_after_inputs before state [] = []
   runs_after_inputs before state (input ∷ inputs) =
       frame_of before state input
-      ∷ runs_after_inputs (before ++ input ∷ [])
-      (state_after state (cycle_of before state input)) inputs
+      ∷ runs_after_inputs (before ++ input ∷ []) (state_after state (cycle_of before state input)) inputs
 
   -- the state after the cycles of these inputs, and the frames of those cycles
   abbrev pub state_of : List CycleInput → State G E

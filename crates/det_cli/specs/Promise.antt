@@ -73,8 +73,7 @@ pub record Runs (c : CommandValue) (first last : ShelfState) (out : SinkRun)
   -- It opens no other name, and none before its turn. If the names are known, it opens only those
   -- that it needs.
   pub asked : AsksPrefix first last (files_of c)
-  pub needed : KnowsAllBytes c first
-      → AsksPrefix first last (opened_by c.word c (known_bytes first))
+  pub needed : KnowsAllBytes c first → AsksPrefix first last (opened_by c.word c (known_bytes first))
   -- slots given before the call keep what they have left
   pub earlier : KeepsSlots first last
   -- A command that shows no runs leaves the audience as it was. If one that shows runs is done,

@@ -37,8 +37,7 @@ taken First lines.Stim = step [] Between
 taken Between (lines.Cycle time) = step [] (Inside 1 (empty_block time))
 taken Between lines.Terminate = step (items.Terminate ∷ []) Ended
 taken (Inside blocks input) (lines.Cycle time) =
-    if nat_lt blocks 1000000
-    then step (items.Cycle input ∷ []) (Inside (blocks + 1) (empty_block time))
+    if nat_lt blocks 1000000 then step (items.Cycle input ∷ []) (Inside (blocks + 1) (empty_block time))
     else None
 taken (Inside blocks input) (lines.Sample s) =
     if nat_lt (length input.samples) 4096 then step [] (Inside blocks (with_sample input s))

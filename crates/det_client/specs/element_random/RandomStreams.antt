@@ -15,8 +15,7 @@ splitmix_output x = (mix_u64 x).0
 -- the key of a seed, a cycle, a pass and an element
 unfoldable pub key : ℕ → ℕ → ℕ → ℕ → ℕ
 key seed cycle pass element =
-    splitmix_output
-    (bit_xor (splitmix_output (bit_xor (splitmix_output seed) cycle)) (pass * 2 ^ 32 + element))
+    splitmix_output (bit_xor (splitmix_output (bit_xor (splitmix_output seed) cycle)) (pass * 2 ^ 32 + element))
 
 -- the common part of the keys of a pass: the hash of seed and cycle, and the pass
 pub record AreKeysOf (keys : PassKeys) (seed cycle pass : ℕ) : Type 0 where

@@ -91,8 +91,7 @@ particle_after_step e s = record e { x = coordinate_after e.x s.dx; y = coordina
 abbrev pub particle_after_pull : Option Best → Particle → ℕ → Particle
 particle_after_pull None e w = e
 particle_after_pull (Some best) e w =
-    if w % 8 == 0 then e
-    else record e { x = step_towards e.x best.x 3; y = step_towards e.y best.y 3 }
+    if w % 8 == 0 then e else record e { x = step_towards e.x best.x 3; y = step_towards e.y best.y 3 }
 
 -- a particle after a pass, from the key of its stream
 abbrev pub after_pass : Cloud → Option Best → ℕ → Particle → ℕ → Particle

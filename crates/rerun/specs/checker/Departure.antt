@@ -20,8 +20,7 @@ use Rattle.rerun.specs.replayer.ReplayRecord.{inputs}
 -- the number of frames before the first one that differs from the one of its number in another list
 unfoldable pub agreeing_count : ℕ → List Frame → List Frame → ℕ
 agreeing_count number (frame ∷ others) (given ∷ later) =
-    if is_none (frame_difference number frame given)
-    then suc (agreeing_count (suc number) others later)
+    if is_none (frame_difference number frame given) then suc (agreeing_count (suc number) others later)
     else 0
 agreeing_count number others later = 0
 
