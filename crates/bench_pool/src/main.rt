@@ -6,7 +6,6 @@ mod time_pass;
 use crate::time_pass::time_crew_pass;
 use anyhow::Context;
 use det_values::Params;
-use job_heavy::Heavy;
 use std::env;
 
 /// The number of elements of the pass.
@@ -24,7 +23,7 @@ fn main(rt: HostRuntime) -> anyhow::Result<()> {
     let mut params = Params::new(alloc);
     params.push(ELEMENTS).ok().context("out of memory")?;
     for workers in WORKERS {
-        let time = time_crew_pass::<Heavy, _>(&rt, alloc, &params, workers.clamp(1, 64))?;
+        let time = time_crew_pass(&rt, alloc, &params, workers.clamp(1, 64))?;
         println!(rt; "{ELEMENTS} heavy elements, {workers} workers: {time:?}")?;
     }
     Ok(())

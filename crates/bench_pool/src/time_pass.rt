@@ -1,11 +1,12 @@
-//! Measures the time of a pass of a job by a crew.
+//! Measures the time of a pass of the heavy job by a crew.
 
 ghost use Rattle.std.specs.Prelude.{◌≡◌, ◌≤◌, length, IfOk, IfSome};
-ghost use Rattle.std.specs.Arc.{arc_value};
 ghost use Rattle.std.specs.List.{All};
 ghost use Rattle.job.specs.event_cache.Rings.{windows};
 ghost use Rattle.job.specs.Laws.{CoversSome};
 ghost use Rattle.job.specs.Passes.{IsReady};
+ghost use Rattle.job_heavy.specs.Meaning.{meaning};
+ghost use Rattle.job_heavy.specs.Ranges.{Covers, Own, Fit};
 ghost use Rattle.worker_pool.specs.Crews.{room_name};
 
 use anyhow::{Context, Result, bail};
@@ -13,6 +14,7 @@ use det_client::{Client, Next};
 use det_values::{Container, Events, Params};
 use job::event_cache::EventCache;
 use job::{Job, JobStart, PassRoom, Pool};
+use job_heavy::Heavy;
 use std::alloc::{AllocError, Global};
 use std::marker::Brand;
 use std::sync::Arc;
@@ -26,16 +28,6 @@ fn no_events(alloc: Global) -> std::result::Result<EventCache, AllocError>
     ensures { IfOk result (λ cache. length (windows cache) ≡ 0) }
 {
     EventCache::new(alloc, &Events::new(alloc))
-}
-
-/// A value behind a new `Arc`.
-fn new_shared<T: Drop>(alloc: Global, value: T) -> std::result::Result<Arc<T, Global>, AllocError>
-    ensures { IfOk result (λ owner. arc_value owner ≡ value) }
-{
-    match Arc::new(alloc, value) {
-        Ok(owner) => Ok(owner),
-        Err(_) => Err(AllocError),
-    }
 }
 
 /// Pass 0 of cycle 1.
@@ -54,14 +46,14 @@ fn pass_zero<J: Job>(
     ensures { IfOk result (λ pass. IsReady J.meaning J.Covers J.Own J.Fit pass) }
 {
     Ok(OwnedPass {
-        job: new_shared(alloc, job)?,
-        plan: new_shared(alloc, plan)?,
-        carry: new_shared(alloc, carry)?,
+        job: Arc::new(alloc, job)?,
+        plan: Arc::new(alloc, plan)?,
+        carry: Arc::new(alloc, carry)?,
         number: 0,
-        elements: new_shared(alloc, elements)?,
+        elements: Arc::new(alloc, elements)?,
         seed,
         cycle: 1,
-        earlier: new_shared(alloc, Container::new(alloc))?,
+        earlier: Arc::new(alloc, Container::new(alloc))?,
         shows: false,
     })
 }
@@ -98,59 +90,44 @@ fn time_pass<J: Job, P: Pool<J>, R: Clock>(
     Ok(start.elapsed(rt)?)
 }
 
-/// The time of a pass by a crew started in this room.
-fn time_with_crew<J, B, R>(
+/// The time of a pass of the heavy job by a crew started in this room.
+fn time_with_crew<B, R>(
     rt: &R,
     alloc: Global,
-    room: CrewRoom<J>,
-    pass: &OwnedPass<J>,
+    room: CrewRoom<Heavy>,
+    pass: &OwnedPass<Heavy>,
     workers: u32,
 ) -> Result<Duration>
 where
-    J: Job + Send + Sync + 'static,
-    J::Globals: Send + 'static,
-    J::Element: Send + Sync + 'static,
-    J::Plan: Send + Sync + 'static,
-    J::Part: Send + Sync + 'static,
     B: OfficeName + Send + Sync + 'static,
     R: Threads + Clock,
     requires room { room_name room ≡ B.table }
-    requires ready { IsReady J.meaning J.Covers J.Own J.Fit pass.now }
+    requires ready { IsReady meaning Covers Own Fit pass.now }
     requires workers { (1 ≤ workers) × (workers ≤ 64) }
 {
-    let Ok(gate) = new_shared(alloc, NoGate) else {
-        bail!("out of memory");
-    };
-    let Ok(mut crew) = Crew::<J, B, NoGate>::start(rt, alloc, room, workers, &gate) else {
-        bail!("out of memory");
-    };
+    let gate = Arc::new(alloc, NoGate).ok().context("out of memory")?;
+    let crew = Crew::<Heavy, B, NoGate>::start(rt, alloc, room, workers, &gate);
+    let mut crew = crew.ok().context("out of memory")?;
     let time = time_pass(rt, alloc, &mut crew, pass);
     crew.stop(rt);
     time
 }
 
-/// The time of the first pass, by a crew, over the elements that a job with these parameters starts
-/// with.
-pub fn time_crew_pass<J, R>(
+/// The time of the heavy job's first pass by a crew, over the elements that the job with these
+/// parameters starts with.
+pub fn time_crew_pass<R: Threads + Clock>(
     rt: &R,
     alloc: Global,
     params: &Params,
     workers: u32,
 ) -> Result<Duration>
-where
-    J: Job + Send + Sync + 'static,
-    J::Globals: Send + 'static,
-    J::Element: Send + Sync + 'static,
-    J::Plan: Send + Sync + 'static,
-    J::Part: Send + Sync + 'static,
-    R: Threads + Clock,
-    requires workers { (1 ≤ workers) × (workers ≤ 64) }
+    requires { (1 ≤ workers) × (workers ≤ 64) }
 {
-    let Some(pass) = first_pass::<J>(alloc, params) else {
+    let Some(pass) = first_pass::<Heavy>(alloc, params) else {
         bail!("no pass");
     };
     let Ok(room) = CrewRoom::new(alloc) else {
         bail!("out of memory");
     };
-    time_with_crew::<J, Brand, R>(rt, alloc, room, &pass, workers)
+    time_with_crew::<Brand, R>(rt, alloc, room, &pass, workers)
 }

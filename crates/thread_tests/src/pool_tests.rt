@@ -4,7 +4,7 @@
 mod list_job;
 mod watch;
 
-pub use list_job::{ListJob, Met, NoGlobals, NoPlan};
+pub use list_job::{ListJob, Met};
 pub use watch::{HELD, Watch};
 
 #[cfg(test)]

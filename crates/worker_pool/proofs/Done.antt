@@ -1,6 +1,6 @@
 -- A worker's last block gets its mark.
 use Rattle.std.proofs.Common.{◌≡◌, ℕ, ◌+◌, ◌<◌, ◌≤◌, List, [], ◌∷◌, ◌++◌, length, map, Result, is_err, sym, refl, ap, ◌∙◌, subst, inl, inr}
-use Rattle.std.proofs.Common.{arith, append_assoc, length-append}
+use Rattle.std.proofs.Common.{Bool, true, false, arith, append_assoc, length-append}
 use mathlib.Core.List.{map-append}
 use Rattle.worker_pool.specs.declared.pool_view.Mark.{Mark}
 use Rattle.worker_pool.specs.declared.pool_view.Mark.TheVariants.{Open, Finished, Reported, Skipped}
@@ -10,7 +10,7 @@ use Rattle.job.specs.Pass.{PassResult, Refusal}
 use Rattle.pass_in_blocks.specs.declared.block_answer.BlockResult.{BlockResult}
 use Rattle.pass_in_blocks.specs.declared.block_answer.BlockAnswer.{BlockAnswer}
 use Rattle.pass_in_blocks.specs.BlockAnswers.{answer_of}
-use Rattle.worker_pool.specs.Views.{entry, view, Stands, marked, Below, taken, passed, with_mark}
+use Rattle.worker_pool.specs.Views.{entry, view, Stands, marked, Below, taken, passed, with_mark, mark_after}
 use Rattle.worker_pool.specs.Gather.{refuses}
 use Rattle.worker_pool.specs.Results.{Rising, shown, IsHonest, Honest, result_at, results_of, Tidy, Works}
 use Rattle.worker_pool.proofs.Entries.{below_append, below_more}
@@ -86,17 +86,24 @@ module _ {E P : Type 0} (block : ℕ → Result (PassResult E P) Refusal) where
   works_skipped v cl u b rs h is took got = subst (λ (qs : List (BlockResult E P)). Works block u qs) (nil rs)
       (works_more v u Skipped rs [] h tt (marked_view v cl u Skipped b h.tidy.below took is got) refl)
 
+  honest_after : (refused : Bool) (b : ℕ) → refuses block b ≡ refused → IsHonest block (mark_after refused) b
+  honest_after true b is = is
+  honest_after false b is = is
+
+  result_after : (refused : Bool) (b : ℕ) → result_at block (mark_after refused) b ≡ (b, block b) ∷ []
+  result_after true b = refl
+  result_after false b = refl
+
   -- the block that was claimed last has a result and gets its mark
-  pub works_marked : (k : Mark) (v cl lk u : PoolView) (b : ℕ) (rs qs : List (BlockResult E P)) (a : BlockAnswer E P) → Works block v rs
-      → b ≡ v.seen → cl ≡ taken v → lk ≡ cl → u ≡ with_mark b k lk
-      → answer_of a ≡ block b → qs ≡ rs ++ record { block = b; answer = a } ∷ []
-      → (is_err (answer_of a) ≡ refuses block v.seen → IsHonest block k v.seen) → result_at block k v.seen ≡ (v.seen, block v.seen) ∷ []
-      → Works block u qs
-  works_marked k v cl lk u b rs qs a h is took same got right_answer pushed honest kept =
+  pub works_marked : (refused : Bool) (v cl lk u : PoolView) (b : ℕ) (rs qs : List (BlockResult E P)) (a : BlockAnswer E P)
+      → Works block v rs → b ≡ v.seen → cl ≡ taken v → lk ≡ cl → u ≡ with_mark b (mark_after refused) lk
+      → answer_of a ≡ block b → qs ≡ rs ++ record { block = b; answer = a } ∷ [] → refused ≡ is_err (answer_of a) → Works block u qs
+  works_marked refused v cl lk u b rs qs a h is took same got right_answer pushed told =
+      let k = mark_after refused in
       let now : answer_of a ≡ block v.seen = right_answer ∙ ap block is in
       subst (λ (ps : List (BlockResult E P)). Works block u ps) (sym pushed)
-      (works_more v u k rs (record { block = b; answer = a } ∷ []) h (honest (ap is_err now))
-      (marked_view v lk u k b h.tidy.below (same ∙ took) is got) ((λ i. (is i, now i) ∷ []) ∙ sym kept))
+      (works_more v u k rs (record { block = b; answer = a } ∷ []) h (honest_after refused v.seen (sym (told ∙ ap is_err now)))
+      (marked_view v lk u k b h.tidy.below (same ∙ took) is got) ((λ i. (is i, now i) ∷ []) ∙ sym (result_after refused v.seen)))
 
 pub taken_stands : (v w u : PoolView) (b : ℕ) → b ≡ v.seen → w ≡ taken v → u ≡ w → Stands b Open u.entries
 taken_stands v w u b is took same = subst (λ (x : PoolView). Stands b Open x.entries) (sym (same ∙ took))

@@ -6,7 +6,7 @@ use native.Mathlib.Decide.{ℕ_discrete}
 use Rattle.std.proofs.Math.Seq.{take-add}
 use Rattle.std.proofs.lemmas.List.{take_all}
 use Rattle.det_client.specs.element_random.RandomStreams.{key}
-use Rattle.job.specs.Meaning.{Meaning}
+use Rattle.job.specs.Meaning.{Meaning, ElementResult}
 use Rattle.job.specs.Pass.{PassResult, Refusal, nothing, more, taken, passed, block, block_size, in_block}
 use Rattle.job.proofs.Sizes.{begins, covers}
 use Rattle.job.specs.Passes.{blocks_of}
@@ -54,6 +54,33 @@ module _ {S G E L P : Type 0} (m : Meaning S G E L P) (j : S) (plan : L) (carry 
   abbrev drew : ℕ → E → ℕ
   drew i e = m.drawn j plan carry pass e (key seed cycle pass i)
 
+  -- one element, and then the rest
+  abbrev step : ℕ → E → (PassResult E P → Result (PassResult E P) Refusal) → PassResult E P → Result (PassResult E P) Refusal
+  step i e rest d = elim (m.worked j plan carry pass e (key seed cycle pass i)) [
+    | Ok w ↦ rest (more m j plan carry seed cycle pass d w (drew i e))
+    | Err c ↦ Err (record { element = i; code = c })
+  ]
+
+  -- a step after two results, if what follows it agrees
+  same_step : (i : ℕ) (e : E) (rest others : PassResult E P → Result (PassResult E P) Refusal) (d c : PassResult E P)
+      (change : Result (PassResult E P) Refusal → Result (PassResult E P) Refusal)
+      → ((w : ElementResult E P) → rest (more m j plan carry seed cycle pass d w (drew i e))
+      ≡ change (others (more m j plan carry seed cycle pass c w (drew i e))))
+      → ((r : Refusal) → Err r ≡ change (Err r)) → step i e rest d ≡ change (step i e others c)
+  same_step i e rest others d c change goes stops =
+      elim (m.worked j plan carry pass e (key seed cycle pass i)) as (λ r.
+      elim r [
+        | Ok w ↦ rest (more m j plan carry seed cycle pass d w (drew i e))
+        | Err code ↦ Err (record { element = i; code = code })
+      ]
+      ≡ change (elim r [
+        | Ok w ↦ others (more m j plan carry seed cycle pass c w (drew i e))
+        | Err code ↦ Err (record { element = i; code = code })
+      ])) [
+        | Ok w ↦ goes w
+        | Err code ↦ stops (record { element = i; code = code })
+      ]
+
   -- the result of further elements
   abbrev pub on_with : ℕ → List E → Result (PassResult E P) Refusal → Result (PassResult E P) Refusal
   on_with i es (Ok d) = taken m j plan carry seed cycle pass i es d
@@ -62,21 +89,8 @@ module _ {S G E L P : Type 0} (m : Meaning S G E L P) (j : S) (plan : L) (carry 
   pub through : (i n : ℕ) (es fs : List E) (d : PassResult E P) → n ≡ i + length es
       → taken m j plan carry seed cycle pass i (es ++ fs) d ≡ on_with n fs (taken m j plan carry seed cycle pass i es d)
   through i n [] fs d is = ap (λ (k : ℕ). from k fs d) (omega arith)
-  through i n (e ∷ es) fs d is =
-      elim (m.worked j plan carry pass e (key seed cycle pass i)) as (λ r.
-      elim r [
-        | Ok w ↦ from (i + 1) (es ++ fs) (more m j plan carry seed cycle pass d w (drew i e))
-        | Err c ↦
-            Err (record { element = i; code = c })
-      ]
-      ≡ on_with n fs (elim r [
-        | Ok w ↦ from (i + 1) es (more m j plan carry seed cycle pass d w (drew i e))
-        | Err c ↦
-            Err (record { element = i; code = c })
-      ])) [
-        | Ok w ↦ through (i + 1) n es fs (more m j plan carry seed cycle pass d w (drew i e)) (omega arith)
-        | Err c ↦ refl
-      ]
+  through i n (e ∷ es) fs d is = same_step i e (from (i + 1) (es ++ fs)) (from (i + 1) es) d d (on_with n fs)
+      (λ w. through (i + 1) n es fs (more m j plan carry seed cycle pass d w (drew i e)) (omega arith)) (λ r. refl)
 
   module _ (assoc : (a b c : P) → m.joined j (m.joined j a b) c ≡ m.joined j a (m.joined j b c))
       (left : (a : P) → m.joined j (m.unit_part j) a ≡ a) (right : (a : P) → m.joined j a (m.unit_part j) ≡ a) where
@@ -94,25 +108,12 @@ module _ {S G E L P : Type 0} (m : Meaning S G E L P) (j : S) (plan : L) (carry 
     -- the earlier result comes before the result from nothing
     from_nothing : (i : ℕ) (es : List E) (d : PassResult E P) → from i es d ≡ onto join d (from i es none)
     from_nothing i [] d = λ k. Ok (done (sym (append_nil d.elements) k) (sym (append_nil d.draws) k) (sym (right d.part) k))
-    from_nothing i (e ∷ es) d =
-        elim (m.worked j plan carry pass e (key seed cycle pass i)) as (λ r.
-        elim r [
-          | Ok w ↦ from (i + 1) es (more m j plan carry seed cycle pass d w (drew i e))
-          | Err c ↦
-              Err (record { element = i; code = c })
-        ]
-        ≡ onto join d (elim r [
-          | Ok w ↦ from (i + 1) es (more m j plan carry seed cycle pass none w (drew i e))
-          | Err c ↦
-              Err (record { element = i; code = c })
-        ])) [
-          | Ok w ↦ let one : PassResult E P = more m j plan carry seed cycle pass none w (drew i e) in
-              from_nothing (i + 1) es (more m j plan carry seed cycle pass d w (drew i e))
-              ∙ (λ k. onto join (done (d.elements ++ w.element ∷ []) (d.draws ++ drew i e ∷ []) (join d.part (sym (left w.part) k)))
-              (from (i + 1) es none))
-              ∙ sym (onto_twice d one (from (i + 1) es none)) ∙ sym (ap (onto join d) (from_nothing (i + 1) es one))
-          | Err c ↦ refl
-        ]
+    from_nothing i (e ∷ es) d = same_step i e (from (i + 1) es) (from (i + 1) es) d none (onto join d)
+        (λ w. let one : PassResult E P = more m j plan carry seed cycle pass none w (drew i e) in
+        from_nothing (i + 1) es (more m j plan carry seed cycle pass d w (drew i e))
+        ∙ (λ k. onto join (done (d.elements ++ w.element ∷ []) (d.draws ++ drew i e ∷ []) (join d.part (sym (left w.part) k)))
+        (from (i + 1) es none))
+        ∙ sym (onto_twice d one (from (i + 1) es none)) ∙ sym (ap (onto join d) (from_nothing (i + 1) es one))) (λ r. refl)
 
     on_is_then : (i : ℕ) (es : List E) (a : Result (PassResult E P) Refusal) → on_with i es a ≡ then join a (from i es none)
     on_is_then i es (Ok d) = from_nothing i es d

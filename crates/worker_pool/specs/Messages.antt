@@ -39,6 +39,13 @@ module _ {S G E L P : Type 0} where
   IsShareOf m t seat results = IsShare (block_in m t.pass) (block_count t.table)
       (view_of seat) results
 
+  -- a seat at the task's table, with the results of the blocks that were claimed with it
+  pub record HasFound (m : Meaning S G E L P) (t : Task S G E L P) (seat : PassSeat)
+      (results : List (BlockResult E P)) : Type 0 where
+    pub here : IsAt seat t.table
+    pub right : AreOf m t results
+    pub share : IsShareOf m t seat results
+
   -- the ticket is for this task, and the seat is a new one at its table
   pub record IsWork (m : Meaning S G E L P) (Covers : S → P → ℕ → Type 0) (Own : S → E → Type 0)
       (Fit : S → L → Type 0) (announced : List (Task S G E L P)) (t : Task S G E L P)

@@ -1,7 +1,7 @@
 -- A worker's facts about a pass: an entry for each block that it claimed, the blocks that it has
 -- seen, and its shares of the table.
 use Rattle.std.specs.Prelude.{◌≡◌, ℕ, ◌+◌, ◌-◌, ◌<◌, ◌≤◌, ◌==◌, min, max, cond, List, [], ◌∷◌, ◌++◌}
-use Rattle.std.specs.Prelude.{◌⊎◌}
+use Rattle.std.specs.Prelude.{◌⊎◌, Bool, true, false}
 use Rattle.worker_pool.specs.declared.pool_view.Mark.{Mark}
 use Rattle.worker_pool.specs.declared.pool_view.Mark.TheVariants.{Open, Finished, Reported, Skipped}
 use Rattle.worker_pool.specs.declared.pool_view.PoolEntry.{PoolEntry}
@@ -81,6 +81,11 @@ passed v = view v.entries (v.seen + 1) v.shares
 
 abbrev pub with_mark : ℕ → Mark → PoolView → PoolView
 with_mark b m v = view (marked b m v.entries) v.seen v.shares
+
+-- the mark of a block that was run, by whether it refused
+abbrev pub mark_after : Bool → Mark
+mark_after true = Reported
+mark_after false = Finished
 
 -- a seat that has seen nothing
 abbrev pub IsNew : PoolView → Type 0

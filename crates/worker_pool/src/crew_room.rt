@@ -5,8 +5,8 @@ use std::alloc::{AllocError, Global};
 use tickets::Office;
 
 /// The value from which a crew is started. To start one, call a function over `B: OfficeName` at
-/// `Brand`, as `run_worker_pool` does. The ghosts of that call are
-/// `record { table = room_name room }`, which names the room in the types of the crew.
+/// `Brand`. The ghosts of that call are `record { table = room_name room }`, which names the room
+/// in the types of the crew.
 #[derive(Drop)]
 pub struct CrewRoom<J: Job> {
     pub(crate) office: Office<Task<J>>,

@@ -3,7 +3,7 @@ ghost use Rattle.std.specs.Prelude.{◌≡◌, ◌+◌, ◌≤◌, [], ◌∷◌
 ghost use Rattle.std.specs.Arc.{arc_value};
 ghost use Rattle.worker_pool.specs.Handles.{view_of, IsAt, IsSameSeat};
 ghost use Rattle.rtrb.specs.Ring.{sent, received, known_free};
-ghost use Rattle.worker_pool.specs.Messages.{IsTask, IsWork, IsReply, AreOf, IsShareOf};
+ghost use Rattle.worker_pool.specs.Messages.{IsTask, IsWork, IsReply, AreOf, IsShareOf, HasFound};
 ghost use Rattle.worker_pool.specs.Messages.{IsServed};
 ghost use Rattle.worker_pool.specs.Views.{IsNew};
 
@@ -202,13 +202,9 @@ fn add_reply<J: Job, B: OfficeName>(
     requires announced { keeper.old.work ≡ task.now ∷ [] }
     requires present { reply.ticket.number ≡ keeper.old.number }
     requires reply { IsReply J.meaning reply.ticket.work reply.seat reply.results }
-    requires here { IsAt seat.old task.now.table }
-    requires right { AreOf J.meaning task.now found.old.items }
-    requires share { IsShareOf J.meaning task.now seat.old found.old.items }
+    requires found { HasFound J.meaning task.now seat.old found.old.items }
     ensures same { keeper.new ≡ keeper.old }
-    ensures seat { IsSameSeat seat.new seat.old }
-    ensures right { OnOk result (AreOf J.meaning task.now found.new.items) }
-    ensures share { OnOk result (IsShareOf J.meaning task.now seat.new found.new.items) }
+    ensures found { OnOk result (HasFound J.meaning task.now seat.new found.new.items) }
 {
     let Reply {
         ticket,
@@ -262,13 +258,9 @@ pub(crate) fn take_reply<J: Job, B: OfficeName>(
     found: &mut Vec<BlockResult<J::Element, J::Part>>,
 ) -> Result<bool, AllocError>
     requires announced { keeper.old.work ≡ task.now ∷ [] }
-    requires here { IsAt seat.old task.now.table }
-    requires right { AreOf J.meaning task.now found.old.items }
-    requires share { IsShareOf J.meaning task.now seat.old found.old.items }
+    requires found { HasFound J.meaning task.now seat.old found.old.items }
     ensures same { keeper.new ≡ keeper.old }
-    ensures seat { IsSameSeat seat.new seat.old }
-    ensures right { IfOk result (λ came. AreOf J.meaning task.now found.new.items) }
-    ensures share { IfOk result (λ came. IsShareOf J.meaning task.now seat.new found.new.items) }
+    ensures found { IfOk result (λ came. HasFound J.meaning task.now seat.new found.new.items) }
 {
     let Some(reply) = link.next_reply() else {
         return Ok(false);

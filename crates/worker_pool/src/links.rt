@@ -2,7 +2,7 @@
 ghost use Rattle.std.specs.Prelude.{◌≡◌, ◌+◌, ◌<◌, ◌≤◌, ◌^◌, [], ◌∷◌, length, IfOk};
 ghost use Rattle.std.specs.Arc.{arc_value};
 ghost use Rattle.worker_pool.specs.Handles.{view_of, IsAt, IsSameSeat};
-ghost use Rattle.worker_pool.specs.Messages.{IsTask, AreOf, IsShareOf};
+ghost use Rattle.worker_pool.specs.Messages.{IsTask, HasFound};
 ghost use Rattle.worker_pool.specs.Views.{IsNew, fresh, all_shares};
 
 use crate::gate::Gate;
@@ -65,13 +65,9 @@ fn take_replies<J: Job, B: OfficeName>(
     found: &mut Vec<BlockResult<J::Element, J::Part>>,
 ) -> Result<u32, AllocError>
     requires announced { keeper.old.work ≡ task.now ∷ [] }
-    requires here { IsAt seat.old task.now.table }
-    requires right { AreOf J.meaning task.now found.old.items }
-    requires share { IsShareOf J.meaning task.now seat.old found.old.items }
+    requires found { HasFound J.meaning task.now seat.old found.old.items }
     ensures same { keeper.new ≡ keeper.old }
-    ensures seat { IsSameSeat seat.new seat.old }
-    ensures right { IfOk result (λ came. AreOf J.meaning task.now found.new.items) }
-    ensures share { IfOk result (λ came. IsShareOf J.meaning task.now seat.new found.new.items) }
+    ensures found { IfOk result (λ came. HasFound J.meaning task.now seat.new found.new.items) }
 {
     let mut came = 0u32;
     'each: for link in links {
@@ -92,12 +88,8 @@ fn collect_replies<J: Job, B: OfficeName>(
     given: u32,
 ) -> Result<(), AllocError>
     requires announced { keeper.old.work ≡ task.now ∷ [] }
-    requires here { IsAt seat.old task.now.table }
-    requires right { AreOf J.meaning task.now found.old.items }
-    requires share { IsShareOf J.meaning task.now seat.old found.old.items }
-    ensures seat { IsSameSeat seat.new seat.old }
-    ensures right { IfOk result (λ done. AreOf J.meaning task.now found.new.items) }
-    ensures share { IfOk result (λ done. IsShareOf J.meaning task.now seat.new found.new.items) }
+    requires found { HasFound J.meaning task.now seat.old found.old.items }
+    ensures { IfOk result (λ done. HasFound J.meaning task.now seat.new found.new.items) }
 {
     let blocks = task.table.blocks() as usize;
     let mut missing = given;
@@ -131,10 +123,8 @@ pub(crate) fn work_together<J: Job, B: OfficeName, G: Gate>(
     requires task { IsTask J.meaning J.Covers J.Own J.Fit (arc_value task.now) }
     requires here { IsAt seat.old (arc_value task.now).table }
     requires fresh { view_of seat.old ≡ fresh all_shares }
-    ensures seat { IsSameSeat seat.new seat.old }
-    ensures right { IfOk result (λ found. AreOf J.meaning (arc_value task.now) found.items) }
-    ensures share { IfOk result (λ found.
-        IsShareOf J.meaning (arc_value task.now) seat.new found.items) }
+    ensures { IfOk result (λ found.
+        HasFound J.meaning (arc_value task.now) seat.new found.items) }
 {
     keeper.announce(slice::from_ref(&**task));
     let given = give_all(keeper, links, task, seat, gate);

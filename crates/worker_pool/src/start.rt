@@ -42,73 +42,6 @@ struct KeptThread<J: Job, B: OfficeName> {
     handle: JoinHandle<()>,
 }
 
-/// Starts one kept thread, or returns None if the system refuses a thread.
-fn start_thread<J, B, G, R>(
-    rt: &R,
-    alloc: Global,
-    worker: u32,
-    gate: &Arc<G, Global>,
-) -> Result<Option<KeptThread<J, B>>, AllocError>
-where
-    J: Job + Send + Sync + 'static,
-    J::Globals: Send + 'static,
-    J::Element: Send + Sync + 'static,
-    J::Plan: Send + Sync + 'static,
-    J::Part: Send + Sync + 'static,
-    B: OfficeName + Send + Sync + 'static,
-    G: Gate + Send + Sync + 'static,
-    R: Threads,
-{
-    let gate = Arc::try_clone(gate)?;
-    let (works, theirs) = RingBuffer::with_protocol::<Global, WorkFits>(alloc, 1)?;
-    let (back, replies) = RingBuffer::with_protocol::<Global, ReplyFits>(alloc, MOST_REPLIES)?;
-    let thread = move || serve_link::<J, B, G>(worker, gate, theirs, back);
-    let Ok(handle) = thread::spawn(rt, thread) else {
-        return Ok(None);
-    };
-    let link = Link::<J, B> {
-        works,
-        replies,
-        bench: Bench::new(alloc),
-        is_busy: false,
-    };
-    Ok(Some(KeptThread { link, handle }))
-}
-
-/// Starts a kept thread for each worker except the caller, until the system refuses one.
-fn start_threads<J, B, G, R>(
-    rt: &R,
-    alloc: Global,
-    workers: u32,
-    gate: &Arc<G, Global>,
-    links: &mut Vec<Link<J, B>>,
-    handles: &mut Vec<JoinHandle<()>>,
-) -> Result<(), AllocError>
-where
-    J: Job + Send + Sync + 'static,
-    J::Globals: Send + 'static,
-    J::Element: Send + Sync + 'static,
-    J::Plan: Send + Sync + 'static,
-    J::Part: Send + Sync + 'static,
-    B: OfficeName + Send + Sync + 'static,
-    G: Gate + Send + Sync + 'static,
-    R: Threads,
-    requires none { links.old.items ≡ [] }
-    requires some { 1 ≤ workers }
-    ensures { length links.new.items < workers }
-{
-    'start: for worker in 1..workers {
-        let Some(started) = start_thread(rt, alloc, worker, gate)? else {
-            break;
-        };
-        let KeptThread { link, handle } = started;
-        if handles.push(handle).is_err() || links.push(link).is_err() {
-            return Err(AllocError);
-        }
-    }
-    Ok(())
-}
-
 impl<J, B, G> Crew<J, B, G>
 where
     J: Job + Send + Sync + 'static,
@@ -119,6 +52,54 @@ where
     B: OfficeName + Send + Sync + 'static,
     G: Gate + Send + Sync + 'static,
 {
+    /// Starts one kept thread, or returns None if the system refuses a thread.
+    fn start_thread<R: Threads>(
+        rt: &R,
+        alloc: Global,
+        worker: u32,
+        gate: &Arc<G, Global>,
+    ) -> Result<Option<KeptThread<J, B>>, AllocError> {
+        let gate = Arc::try_clone(gate)?;
+        let (works, theirs) = RingBuffer::with_protocol::<Global, WorkFits>(alloc, 1)?;
+        let (back, replies) = RingBuffer::with_protocol::<Global, ReplyFits>(alloc, MOST_REPLIES)?;
+        let thread = move || serve_link::<J, B, G>(worker, gate, theirs, back);
+        let Ok(handle) = thread::spawn(rt, thread) else {
+            return Ok(None);
+        };
+        let link = Link::<J, B> {
+            works,
+            replies,
+            bench: Bench::new(alloc),
+            is_busy: false,
+        };
+        Ok(Some(KeptThread { link, handle }))
+    }
+
+    /// Starts a kept thread for each worker except the caller, until the system refuses one.
+    fn start_threads<R: Threads>(
+        rt: &R,
+        alloc: Global,
+        workers: u32,
+        gate: &Arc<G, Global>,
+        links: &mut Vec<Link<J, B>>,
+        handles: &mut Vec<JoinHandle<()>>,
+    ) -> Result<(), AllocError>
+        requires none { links.old.items ≡ [] }
+        requires some { 1 ≤ workers }
+        ensures { length links.new.items < workers }
+    {
+        'start: for worker in 1..workers {
+            let Some(started) = Self::start_thread(rt, alloc, worker, gate)? else {
+                break;
+            };
+            let KeptThread { link, handle } = started;
+            if handles.push(handle).is_err() || links.push(link).is_err() {
+                return Err(AllocError);
+            }
+        }
+        Ok(())
+    }
+
     /// A crew of `workers` workers: the caller, and a kept thread for each other worker while there
     /// are processors for them. If the system refuses threads there are fewer, and no result
     /// changes. A worker without a thread passes the gate on the caller's thread, after the others.
@@ -139,7 +120,7 @@ where
         let mut handles = Vec::with_capacity(alloc, more)?;
         let gate = Arc::try_clone(gate)?;
         let threads = threads_for(rt, workers);
-        let begun = start_threads(rt, alloc, threads, &gate, &mut links, &mut handles);
+        let begun = Self::start_threads(rt, alloc, threads, &gate, &mut links, &mut handles);
         let crew = Crew {
             keeper: Keeper::new(room.office),
             links,

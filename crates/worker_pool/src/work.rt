@@ -3,15 +3,34 @@ ghost use Rattle.std.specs.Prelude.{◌≡◌, [], ◌+◌, ◌<◌, ◌≤◌, 
 ghost use Rattle.job.specs.Passes.{IsReady, block_in, blocks_in};
 ghost use Rattle.pass_in_blocks.specs.BlockAnswers.{AreRight, AreShown};
 ghost use Rattle.pass_in_blocks.specs.ShownElements.{shown_in};
+ghost use Rattle.worker_pool.specs.declared.pool_view.Mark.TheVariants.{Open};
 ghost use Rattle.worker_pool.specs.declared.pool_view.PoolView.{PoolView};
 ghost use Rattle.worker_pool.specs.Handles.{view_of, block_count, IsAt, IsSameSeat};
 ghost use Rattle.worker_pool.specs.Results.{Stops, Tidy, Works};
-ghost use Rattle.worker_pool.specs.Views.{taken, IsNew};
+ghost use Rattle.worker_pool.specs.Views.{Stands, taken, with_mark, mark_after, IsNew};
 
 use crate::seat::{PassSeat, PassTable};
 use job::{Job, PassRef, PassRoom};
 use pass_in_blocks::{BlockResult, BlockResults, run_block};
 use std::alloc::AllocError;
+
+/// Marks the Open block, which was run, as Reported if it refused, and as Finished if it didn't.
+/// Returns whether to go on.
+fn end_block(table: &PassTable, seat: &mut PassSeat, block: u32, refused: bool) -> bool
+    requires here { IsAt seat.old table.now }
+    requires open { Stands block Open (view_of seat.old).entries }
+    ensures seat { IsSameSeat seat.new seat.old }
+    ensures view { view_of seat.new ≡ with_mark block (mark_after refused) (view_of seat.old) }
+    ensures stops { ¬ IsTrue result → IsTrue refused }
+{
+    if refused {
+        table.report(seat, block);
+        false
+    } else {
+        table.finish(seat, block);
+        true
+    }
+}
 
 /// Tries to claim the next block and runs it. Returns whether to go on. A block above a known
 /// refusal is skipped. The worker looks for a refusal once a block and not once an element, since a
@@ -47,13 +66,7 @@ fn try_block<J: Job>(
     let answer = run_block(pass, block, room)?;
     let refused = answer.is_refusal();
     results.push(BlockResult { block, answer })?;
-    if refused {
-        table.report(seat, block);
-        Ok(false)
-    } else {
-        table.finish(seat, block);
-        Ok(true)
-    }
+    Ok(end_block(table, seat, block, refused))
 }
 
 /// An empty list of results in the memory of `list`. It reserves room for `count` results at once;

@@ -7,7 +7,7 @@ use Rattle.job.specs.declared.job_results.Conclusion.{Conclusion}
 use Rattle.job.specs.Meaning.{ElementResult}
 use Rattle.job.specs.Laws.{JobLaws}
 use Rattle.thread_tests.specs.declared.pool_tests.list_job.ListJob.{ListJob}
-use Rattle.thread_tests.specs.declared.pool_tests.list_job.NoGlobals.{NoGlobals}
+use Rattle.job_heavy.specs.declared.heavy_job.NoGlobals.{NoGlobals}
 use Rattle.thread_tests.specs.pool_tests.Meaning.{meaning, byte_after, worked, drawn, Covers, Own}
 use Rattle.thread_tests.specs.pool_tests.Meaning.{Fit}
 

@@ -4,8 +4,8 @@ use Rattle.std.specs.Prelude.{length, None, Result, Ok, Err}
 use Rattle.det_client.specs.element_random.RandomStreams.{word}
 use Rattle.job.specs.Meaning.{Meaning, ElementResult}
 use Rattle.thread_tests.specs.declared.pool_tests.list_job.ListJob.{ListJob}
-use Rattle.thread_tests.specs.declared.pool_tests.list_job.NoGlobals.{NoGlobals}
-use Rattle.thread_tests.specs.declared.pool_tests.list_job.NoPlan.{NoPlan}
+use Rattle.job_heavy.specs.declared.heavy_job.NoGlobals.{NoGlobals}
+use Rattle.job_heavy.specs.declared.heavy_job.NoPlan.{NoPlan}
 
 -- an even byte, or a random one
 abbrev pub byte_after : ℕ → ℕ → ℕ

@@ -11,6 +11,7 @@ use det_client::element_random::ElementRandom;
 use det_values::{Bytes, Container, Limited, Params};
 use job::event_cache::EventCache;
 use job::{BadParam, Conclusion, Job, JobFault, JobStart};
+use job_heavy::{NoGlobals, NoPlan};
 use std::alloc::{AllocError, Global};
 use std::sync::Arc;
 
@@ -23,14 +24,6 @@ pub struct ListJob {
     pub watch: Option<Arc<Watch, Global>>,
     pub events: u16,
 }
-
-/// The job keeps nothing between cycles.
-#[derive(Clone, Copy, Debug, PartialEq, Eq, Drop)]
-pub struct NoGlobals;
-
-/// The job plans nothing.
-#[derive(Clone, Copy, Debug, PartialEq, Eq, Drop)]
-pub struct NoPlan;
 
 /// The elements that a pass met, in order.
 pub type Met = Limited<u8, 65536>;

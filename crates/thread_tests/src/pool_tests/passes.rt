@@ -1,27 +1,40 @@
 //! Passes of the list job, by a crew and in order, and comparisons of their results.
 ghost use Rattle.std.specs.Prelude.{◌≡◌, ◌≤◌, length};
 ghost use Rattle.std.specs.Arc.{arc_value};
-ghost use Rattle.job.specs.Passes.{IsReady};
-ghost use Rattle.thread_tests.specs.pool_tests.Meaning.{meaning, Covers, Own, Fit};
 ghost use Rattle.worker_pool.specs.Crews.{room_name};
 
 use crate::pool_tests::gates::{HoldGate, Wanted};
-use crate::pool_tests::list_job::{ListJob, Met, NoPlan};
+use crate::pool_tests::list_job::{ListJob, Met};
 use crate::pool_tests::watch::Watch;
 use det_values::Container;
 use job::{PassDone, PassRoom, Pool, PoolFault};
+use job_heavy::NoPlan;
 use pass_in_blocks::SerialPool;
 use std::alloc::Global;
-use std::marker::Brand;
+use std::marker::{Brand, Model};
 use std::process::Abort;
 use std::sync::Arc;
 use std::sync::atomic::{AtomicBool, AtomicU64, Ordering};
 use std::thread::Threads;
 use tickets::OfficeName;
-use worker_pool::{Crew, CrewRoom, NoGate, OwnedPass, run_worker_pool};
+use worker_pool::{Crew, CrewRoom, Gate, OwnedPass};
 
-/// A pass of a list job.
-pub(crate) type ListPass = OwnedPass<ListJob>;
+/// A pass of a list job, which is ready to run.
+#[derive(Drop)]
+pub(crate) struct ListPass {
+    owned: OwnedPass<ListJob>,
+}
+
+impl Model for ListPass {
+    ghost use Rattle.job.specs.Passes.{IsReady};
+    ghost use Rattle.thread_tests.specs.pool_tests.Meaning.{meaning, Covers, Own, Fit};
+
+    ghost Value = { Unit {0} };
+
+    ghost view = { λ _. tt };
+
+    ghost invariant = { λ p. IsReady meaning Covers Own Fit p.owned };
+}
 
 /// The result of such a pass.
 pub(crate) type ListDone = Result<PassDone<u8, Met>, PoolFault>;
@@ -75,14 +88,13 @@ pub(crate) fn list_pass<R: Abort>(
     bytes: &[u8],
 ) -> ListPass
     requires { length bytes.now ≤ 65536 }
-    ensures { IsReady meaning Covers Own Fit result }
 {
     let job = ListJob {
         limit,
         watch,
         events: 0,
     };
-    OwnedPass {
+    let owned = OwnedPass {
         job: new_shared(rt, alloc, job),
         plan: new_shared(rt, alloc, NoPlan),
         carry: new_shared(rt, alloc, Met::new(alloc)),
@@ -92,15 +104,27 @@ pub(crate) fn list_pass<R: Abort>(
         cycle: 1,
         earlier: new_shared(rt, alloc, Container::new(alloc)),
         shows: true,
-    }
+    };
+    ListPass { owned }
 }
 
-/// The result of such a pass by one thread, without a watch.
-pub(crate) fn run_in_order<R: Abort>(rt: &R, alloc: Global, limit: u32, bytes: &[u8]) -> ListDone
-    requires { length bytes.now ≤ 65536 }
-{
-    let pass = list_pass(rt, alloc, limit, None, bytes);
-    SerialPool.run_pass(&pass.pass(), &mut PassRoom::new(alloc))
+impl ListPass {
+    /// The result of the pass by this pool, in this memory.
+    fn run<P: Pool<ListJob>>(&self, pool: &mut P, room: &mut PassRoom<u8, Met>) -> ListDone {
+        pool.run_pass(&self.owned.pass(), room)
+    }
+
+    /// The result of the pass by one thread. A watch of the pass sees its elements again.
+    pub(crate) fn run_in_order(&self, alloc: Global) -> ListDone {
+        self.run(&mut SerialPool, &mut PassRoom::new(alloc))
+    }
+
+    /// Lets the element go that a watch of the pass holds.
+    fn let_go(&self) {
+        if let Some(watch) = &self.owned.job.watch {
+            watch.let_go.store(true, Ordering::SeqCst);
+        }
+    }
 }
 
 /// Whether two passes ended alike. Their shown bytes hold each element with its draws.
@@ -112,16 +136,17 @@ fn is_same(left: &ListDone, right: &ListDone) -> bool {
     }
 }
 
-/// Whether a pass without refusals over these elements ended as by one thread.
-pub(crate) fn ended_as_in_order<R: Abort>(
-    rt: &R,
-    alloc: Global,
-    done: ListDone,
-    bytes: &[u8],
-) -> bool
-    requires { length bytes.now ≤ 65536 }
-{
-    is_same(&done, &run_in_order(rt, alloc, 65536, bytes))
+/// Whether these are the results of these passes by one thread.
+pub(crate) fn are_in_order(alloc: Global, passes: &[ListPass], results: &[ListDone]) -> bool {
+    if passes.len() != results.len() {
+        return false;
+    }
+    for (pass, done) in passes.iter().zip(results) {
+        if !is_same(done, &pass.run_in_order(alloc)) {
+            return false;
+        }
+    }
+    true
 }
 
 /// Whether this element refused the pass. Its byte equals its number.
@@ -136,27 +161,6 @@ pub(crate) fn is_refused(done: &ListDone, element: u32) -> bool {
                 }
         }
     }
-}
-
-/// Whether a pass has this result with several numbers of workers.
-pub(crate) fn is_alike<R: Threads + Abort>(
-    rt: &R,
-    alloc: Global,
-    pass: &ListPass,
-    wanted: &ListDone,
-) -> bool
-    requires { IsReady meaning Covers Own Fit pass.now }
-{
-    let gate = new_shared(rt, alloc, NoGate);
-    for workers in [1, 2, 3, 8, 64] {
-        if !is_same(
-            &run_worker_pool(rt, alloc, &pass.pass(), workers, &gate),
-            wanted,
-        ) {
-            return false;
-        }
-    }
-    true
 }
 
 /// A gate that holds a worker, with a watch of the elements.
@@ -181,7 +185,7 @@ pub(crate) fn gate_of<R: Abort>(
     new_shared(rt, alloc, gate)
 }
 
-/// A pass that a gate's watch sees.
+/// A pass without refusals that a gate's watch sees.
 pub(crate) fn watched_pass<R: Abort>(
     rt: &R,
     alloc: Global,
@@ -189,87 +193,54 @@ pub(crate) fn watched_pass<R: Abort>(
     bytes: &[u8],
 ) -> ListPass
     requires { length bytes.now ≤ 65536 }
-    ensures { IsReady meaning Covers Own Fit result }
 {
     list_pass(rt, alloc, 65536, Some(clone_owner(rt, &gate.watch)), bytes)
 }
 
-/// Whether one crew in this room ends each of these passes as one thread does, in memory of the
-/// passes before. A row has the number of elements, and the least byte that refuses.
-fn is_alike_with_crew<B: OfficeName + Send + Sync + 'static, R: Threads + Abort>(
+/// The results of these passes by one crew in this room. Each runs in memory of those before it.
+/// After each the element is let go that its watch holds.
+fn run_with_crew<B, G, R>(
     rt: &R,
     alloc: Global,
     room: CrewRoom<ListJob>,
     workers: u32,
-    rows: &[(usize, u32)],
-) -> bool
+    gate: &Arc<G, Global>,
+    passes: &[ListPass],
+) -> Vec<ListDone>
+where
+    B: OfficeName + Send + Sync + 'static,
+    G: Gate + Send + Sync + 'static,
+    R: Threads + Abort,
     requires room { room_name room ≡ B.table }
     requires workers { (1 ≤ workers) × (workers ≤ 64) }
 {
-    let bytes = many_bytes(rt, alloc);
-    let gate = new_shared(rt, alloc, NoGate);
-    let crew = Crew::<ListJob, B, NoGate>::start(rt, alloc, room, workers, &gate);
+    let crew = Crew::<ListJob, B, G>::start(rt, alloc, room, workers, gate);
     let mut crew = crew.expect(rt, "out of memory");
     let mut spares = PassRoom::new(alloc);
-    let mut is_alike = true;
-    for (count, limit) in rows {
-        let elements = &bytes.as_slice()[..(*count).min(65536)];
-        let pass = list_pass(rt, alloc, *limit, None, elements);
-        let done = crew.run_pass(&pass.pass(), &mut spares);
-        is_alike = is_alike && is_same(&done, &run_in_order(rt, alloc, *limit, elements));
+    let mut results = Vec::new(alloc);
+    for pass in passes {
+        let done = pass.run(&mut crew, &mut spares);
+        results.push(done).expect(rt, "out of memory");
+        pass.let_go();
     }
     crew.stop(rt);
-    is_alike
+    results
 }
 
-/// Whether one crew of `workers` workers ends each of these passes as one thread does.
-pub(crate) fn is_crew_alike<R: Threads + Abort>(
+/// The results of these passes by one crew of `workers` workers, one pass after another. Each runs
+/// in memory of those before it. After each the element is let go that its watch holds.
+pub(crate) fn run_by_crew<G, R>(
     rt: &R,
     alloc: Global,
     workers: u32,
-    rows: &[(usize, u32)],
-) -> bool
+    gate: &Arc<G, Global>,
+    passes: &[ListPass],
+) -> Vec<ListDone>
+where
+    G: Gate + Send + Sync + 'static,
+    R: Threads + Abort,
     requires { (1 ≤ workers) × (workers ≤ 64) }
 {
     let room = CrewRoom::new(alloc).expect(rt, "out of memory");
-    is_alike_with_crew::<Brand, R>(rt, alloc, room, workers, rows)
-}
-
-/// Two passes by a crew of two workers in this room. Between them the held element is let go. The
-/// second one runs in memory of the first.
-fn run_twice_with_crew<B: OfficeName + Send + Sync + 'static, R: Threads + Abort>(
-    rt: &R,
-    alloc: Global,
-    room: CrewRoom<ListJob>,
-    first: &ListPass,
-    second: &ListPass,
-    gate: &Arc<HoldGate, Global>,
-) -> (ListDone, ListDone)
-    requires room { room_name room ≡ B.table }
-    requires first { IsReady meaning Covers Own Fit first.now }
-    requires second { IsReady meaning Covers Own Fit second.now }
-{
-    let crew = Crew::<ListJob, B, HoldGate>::start(rt, alloc, room, 2, gate);
-    let mut crew = crew.expect(rt, "out of memory");
-    let mut spares = PassRoom::new(alloc);
-    let before = crew.run_pass(&first.pass(), &mut spares);
-    gate.watch.let_go.store(true, Ordering::SeqCst);
-    let after = crew.run_pass(&second.pass(), &mut spares);
-    crew.stop(rt);
-    (before, after)
-}
-
-/// Two passes by one crew of two workers. Between them the held element is let go.
-pub(crate) fn run_twice<R: Threads + Abort>(
-    rt: &R,
-    alloc: Global,
-    first: &ListPass,
-    second: &ListPass,
-    gate: &Arc<HoldGate, Global>,
-) -> (ListDone, ListDone)
-    requires first { IsReady meaning Covers Own Fit first.now }
-    requires second { IsReady meaning Covers Own Fit second.now }
-{
-    let room = CrewRoom::new(alloc).expect(rt, "out of memory");
-    run_twice_with_crew::<Brand, R>(rt, alloc, room, first, second, gate)
+    run_with_crew::<Brand, G, R>(rt, alloc, room, workers, gate, passes)
 }

@@ -30,7 +30,8 @@ returns g c =
     let m = g.J.Job.meaning in
     let is = ap (λ t. t.pass) c.in-Ok.ensures.ok ∙ c.in_ok-pass.ensures in
     let right = subst (λ p. IfOk c.work_together.result (λ found. All (λ r. IsRight (block_in m p) (blocks_in p) r
-    × Shows (shown_in m p r.block) r.answer) found.items)) is c.work_together.ensures.right in
+    × Shows (shown_in m p r.block) r.answer) found.items)) is
+    (IfOk-weaker c.work_together.result _ _ (λ found h. h.right) c.work_together.ensures) in
     record {
       right = IfOk-weaker c.work_together.result _ _ (λ x h k d lt. (h k d lt).0) right;
       shown = IfOk-weaker c.work_together.result _ _ (λ x h k d lt. (h k d lt).1) right;

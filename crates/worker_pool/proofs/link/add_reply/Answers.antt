@@ -10,18 +10,15 @@ use Rattle.worker_pool.proofs.link.add_reply.Goals as goal
 pub join-requires-clause-other : goal.join-requires-clause-other
 join-requires-clause-other g c = (c.requires.reply c.args.task.now (c.check.ensures.known c.requires.present ∙ c.requires.announced)).0
 
-pub returns-clause-right : goal.returns-clause-right
-returns-clause-right g c =
-    let P = IsOf g.J.Job.meaning c.args.task.now in
-    let b = brought g.J.Job.meaning c.args.reply.ticket.work c.args.task.now c.args.reply.seat c.args.reply.results
-    c.in-Ok.results c.requires.reply (c.check.ensures.known c.requires.present ∙ c.requires.announced) c.in-Ok.is in
-    on_ok_weaker c.add_results.result (λ e. All-same P _ _ e (All-append P _ _ c.requires.right b.0)) c.add_results.ensures
-
-pub returns-clause-share : goal.returns-clause-share
-returns-clause-share g c =
+pub returns-clause-found : goal.returns-clause-found
+returns-clause-found g c =
     let t = c.args.task.now in
+    let P = IsOf g.J.Job.meaning t in
     let b = brought g.J.Job.meaning c.args.reply.ticket.work t c.args.reply.seat c.args.reply.results
     c.in-Ok.results c.requires.reply (c.check.ensures.known c.requires.present ∙ c.requires.announced) c.in-Ok.is in
-    on_ok_weaker c.add_results.result (λ e. share_joined (block_in g.J.Job.meaning t.pass) (block_count t.table)
-    (view_of c.args.seat.now) (view_of c.args.reply.seat) (view_of c.join.new.seat) _ _ _ c.requires.share b.1 c.join.ensures.1 e)
-    c.add_results.ensures
+    on_ok_weaker c.add_results.result (λ e. record {
+      here = c.join.ensures.0.0 ∙ c.requires.found.here;
+      right = All-same P _ _ e (All-append P _ _ c.requires.found.right b.0);
+      share = share_joined (block_in g.J.Job.meaning t.pass) (block_count t.table) (view_of c.args.seat.now)
+          (view_of c.args.reply.seat) (view_of c.join.new.seat) _ _ _ c.requires.found.share b.1 c.join.ensures.1 e;
+    }) c.add_results.ensures

@@ -1,12 +1,18 @@
-use Rattle.std.proofs.Common.{subst}
-use Rattle.worker_pool.specs.Messages.{AreOf, IsShareOf}
+use Rattle.std.proofs.Common.{◌∙◌, ap, sym, subst}
+use Rattle.worker_pool.specs.Messages.{HasFound}
 use Rattle.worker_pool.proofs.links.work_together.Goals as goal
 
-pub returns-clause-right : goal.returns-clause-right
-returns-clause-right g c =
-    subst (λ t. AreOf g.J.Job.meaning t c.collect_replies.new.found.items) c.deref-4.ensures c.in_ok-collect_replies.ensures.right
+pub collect_replies-requires-clause-found : goal.collect_replies-requires-clause-found
+collect_replies-requires-clause-found g c =
+    let made = c.in_ok-found.ensures in
+    subst (λ t. HasFound g.J.Job.meaning t c.work_on_task.new.seat c.in_ok-found.found.items) (c.deref-3.ensures ∙ sym c.deref-4.ensures)
+    (record {
+      here = made.seat.0 ∙ c.give_all-given.ensures.seat.0 ∙ c.requires.here ∙ ap (λ t. t.table.table.shared.table_id) (sym c.deref-3.ensures);
+      right = made.right;
+      share = made.share;
+    })
 
-pub returns-clause-share : goal.returns-clause-share
-returns-clause-share g c =
-    subst (λ t. IsShareOf g.J.Job.meaning t c.collect_replies.new.seat c.collect_replies.new.found.items) c.deref-4.ensures
-    c.in_ok-collect_replies.ensures.share
+pub returns : goal.returns
+returns g c =
+    subst (λ t. HasFound g.J.Job.meaning t c.collect_replies.new.seat c.collect_replies.new.found.items) c.deref-4.ensures
+    c.in_ok-collect_replies.ensures

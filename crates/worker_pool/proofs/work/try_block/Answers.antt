@@ -1,12 +1,13 @@
-use Rattle.std.proofs.Common.{◌≡◌, ◌<◌, length, true≢false, refl, sym, ◌∙◌, inl, inr, arith}
+use Rattle.std.proofs.Common.{Bool, ◌≡◌, ◌<◌, length, true≢false, refl, sym, ap, ◌∙◌, inl, inr, arith}
 use Rattle.std.proofs.lemmas.List.Elements.{All-push, All-same}
 use Rattle.job.specs.Passes.{block_in}
 use Rattle.job.proofs.Sizes.{few_blocks}
 use Rattle.pass_in_blocks.specs.BlockAnswers.{Shows}
 use Rattle.pass_in_blocks.specs.declared.block_answer.BlockResult.{BlockResult}
 use Rattle.pass_in_blocks.specs.ShownElements.{shown_in}
-use Rattle.worker_pool.specs.declared.pool_view.Mark.TheVariants.{Finished, Reported, Skipped}
+use Rattle.worker_pool.specs.declared.pool_view.Mark.TheVariants.{Reported, Skipped}
 use Rattle.worker_pool.specs.Handles.{view_of}
+use Rattle.worker_pool.specs.Views.{with_mark, mark_after}
 use Rattle.worker_pool.proofs.Done.{taken_stands, mark_stands, works_passed, works_skipped, works_marked, room}
 use Rattle.worker_pool.proofs.work.try_block.Goals as goal
 
@@ -41,52 +42,32 @@ push-requires g c =
     let sized = c.requires.sized in let more = c.requires.more in
     let small : length c.args.results.now < 256 = omega (arith, r, few) in (omega arith, small)
 
-pub report-requires-clause-open : goal.report-requires-clause-open
-report-requires-clause-open g c =
+pub end_block-requires-clause-open : goal.end_block-requires-clause-open
+end_block-requires-clause-open g c =
     let a = c.in-Some.ensures.answer in
     let e : view_of c.look.new.seat ≡ view_of c.claim.new.seat = (c.look.ensures.stays (λ t. true≢false (sym t ∙ c.if-look.false))).0 in
     taken_stands (view_of c.args.seat.now) (view_of c.claim.new.seat) _ _ a.0 a.2 e
 
-pub finish-requires-clause-open : goal.finish-requires-clause-open
-finish-requires-clause-open g c =
+pub returns-clause-works : goal.returns-clause-works
+returns-clause-works g c =
     let a = c.in-Some.ensures.answer in
     let e : view_of c.look.new.seat ≡ view_of c.claim.new.seat = (c.look.ensures.stays (λ t. true≢false (sym t ∙ c.if-look.false))).0 in
-    taken_stands (view_of c.args.seat.now) (view_of c.claim.new.seat) _ _ a.0 a.2 e
+    works_marked (block_in g.J.Job.meaning c.args.pass.now) c.is_refusal-refused.result (view_of c.args.seat.now) (view_of c.claim.new.seat)
+    (view_of c.look.new.seat) (view_of c.end_block.new.seat) c.in-Some.block _ _ c.in_ok-answer.answer
+    c.requires.so_far a.0 a.2 e c.end_block.ensures.view
+    c.in_ok-answer.ensures.answer c.in_ok-push.ensures.ok c.is_refusal-refused.ensures
 
-pub returns-then-refused-clause-works : goal.returns-then-refused-clause-works
-returns-then-refused-clause-works g c =
+pub returns-clause-stops : goal.returns-clause-stops
+returns-clause-stops g c goes =
     let a = c.in-Some.ensures.answer in
     let e : view_of c.look.new.seat ≡ view_of c.claim.new.seat = (c.look.ensures.stays (λ t. true≢false (sym t ∙ c.if-look.false))).0 in
-    works_marked (block_in g.J.Job.meaning c.args.pass.now) Reported (view_of c.args.seat.now) (view_of c.claim.new.seat)
-    (view_of c.look.new.seat) (view_of c.report.new.seat) c.in-Some.block _ _ c.in_ok-answer.answer
-    c.requires.so_far a.0 a.2 e c.report.ensures.view c.in_ok-answer.ensures.answer c.in_ok-push.ensures.ok
-    (λ same. sym same ∙ sym c.is_refusal-refused.ensures ∙ c.if-refused.true) refl
-
-pub returns-then-refused-clause-stops : goal.returns-then-refused-clause-stops
-returns-then-refused-clause-stops g c goes =
-    let a = c.in-Some.ensures.answer in
-    let e : view_of c.look.new.seat ≡ view_of c.claim.new.seat = (c.look.ensures.stays (λ t. true≢false (sym t ∙ c.if-look.false))).0 in (
+    let view = c.end_block.ensures.view
+    ∙ ap (λ (refused : Bool). with_mark c.in-Some.block (mark_after refused) (view_of c.look.new.seat)) (c.end_block.ensures.stops goes) in (
       (view_of c.args.seat.now).seen,
       inl (mark_stands Reported (view_of c.args.seat.now) (view_of c.claim.new.seat)
-          (view_of c.look.new.seat) (view_of c.report.new.seat) c.in-Some.block c.requires.so_far.tidy.below a.0 a.2 e
-          c.report.ensures.view),
+          (view_of c.look.new.seat) (view_of c.end_block.new.seat) c.in-Some.block c.requires.so_far.tidy.below a.0 a.2 e view),
     )
 
-pub returns-else-refused-clause-works : goal.returns-else-refused-clause-works
-returns-else-refused-clause-works g c =
-    let a = c.in-Some.ensures.answer in
-    let e : view_of c.look.new.seat ≡ view_of c.claim.new.seat = (c.look.ensures.stays (λ t. true≢false (sym t ∙ c.if-look.false))).0 in
-    works_marked (block_in g.J.Job.meaning c.args.pass.now) Finished (view_of c.args.seat.now) (view_of c.claim.new.seat)
-    (view_of c.look.new.seat) (view_of c.finish.new.seat) c.in-Some.block _ _ c.in_ok-answer.answer
-    c.requires.so_far a.0 a.2 e c.finish.ensures.view c.in_ok-answer.ensures.answer c.in_ok-push.ensures.ok
-    (λ same. sym same ∙ sym c.is_refusal-refused.ensures ∙ c.if-refused.false) refl
-
-pub returns-then-refused-clause-shown : goal.returns-then-refused-clause-shown
-returns-then-refused-clause-shown g c = let P : BlockResult _ _ → Type 0 = λ r. Shows (shown_in g.J.Job.meaning c.args.pass.now r.block)
-    r.answer in
-    All-same P _ _ c.in_ok-push.ensures.ok (All-push P _ _ c.requires.shown c.in_ok-answer.ensures.shown)
-
-pub returns-else-refused-clause-shown : goal.returns-else-refused-clause-shown
-returns-else-refused-clause-shown g c = let P : BlockResult _ _ → Type 0 = λ r. Shows (shown_in g.J.Job.meaning c.args.pass.now r.block)
-    r.answer in
+pub returns-clause-shown : goal.returns-clause-shown
+returns-clause-shown g c = let P : BlockResult _ _ → Type 0 = λ r. Shows (shown_in g.J.Job.meaning c.args.pass.now r.block) r.answer in
     All-same P _ _ c.in_ok-push.ensures.ok (All-push P _ _ c.requires.shown c.in_ok-answer.ensures.shown)

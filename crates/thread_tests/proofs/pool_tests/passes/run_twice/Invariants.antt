@@ -1,5 +1,0 @@
-use Rattle.worker_pool.specs.Crews.{room_name}
-use Rattle.thread_tests.proofs.pool_tests.passes.run_twice.Given as goal
-
-abbrev pub ghosts-run_twice_with_crew : goal.ghosts-run_twice_with_crew
-ghosts-run_twice_with_crew g a = record { table = room_name a.room }
