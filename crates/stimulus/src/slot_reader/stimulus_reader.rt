@@ -131,9 +131,7 @@ impl StimulusReader {
                 Err(fault) => Err(Stopped::Refused(fault)),
             };
         }
-        match self.text.feed(&piece[..n]) {
-            Ok(()) => Ok(true),
-            Err(_) => Err(Stopped::Failed(Failure::OutOfMemory)),
-        }
+        self.text.feed(&piece[..n])?;
+        Ok(true)
     }
 }

@@ -1,5 +1,6 @@
 use Rattle.std.proofs.Common.{ℕ, List, [], subst, arith}
 use Rattle.std.specs.Prelude.{Ok, Err, None}
+use Rattle.std.proofs.lemmas.Result.{err_from_is_err_and}
 use Rattle.det_io.specs.Shelf.{Reads, IsAtEnd}
 use Rattle.det_io.specs.declared.failure.Stopped.TheVariants.{Refused}
 use Rattle.stimulus.specs.slot_reader.StandsFor.{InputIs, slot_of}
@@ -40,18 +41,20 @@ returns-in-Err-clause-piece g c =
           (ended-bad c.in-Err.fault r _ read given end.1 (c.in-Err.ensures read) h),
     )
 
-pub returns-in-Ok-feed-clause-piece : goal.returns-in-Ok-feed-clause-piece
-returns-in-Ok-feed-clause-piece g c = (
+pub returns-clause-piece : goal.returns-clause-piece
+returns-clause-piece g c = (
   _,
   c.in_ok-n.ensures.reads,
   λ read given h. fed-on c.args.self.now (record { slot = c.args.self.now.slot; text = c.feed.new.self }) _ read given
-      c.in-Ok-feed.ensures.ok h,
+      c.in_ok-feed.ensures.ok h,
 )
 
-pub returns-in-Err-feed-clause-piece : goal.returns-in-Err-feed-clause-piece
-returns-in-Err-feed-clause-piece g c = (
-  _,
-  c.in_ok-n.ensures.reads,
-  λ read given h. unfed c.args.self.now (record { slot = c.args.self.now.slot; text = c.feed.new.self }) _ read given
-      c.in-Err-feed.ensures.events h,
-)
+pub returns-in_err-feed-clause-piece : goal.returns-in_err-feed-clause-piece
+returns-in_err-feed-clause-piece g c =
+    let p = err_from_is_err_and c.from_residual-in_err-feed.result c.from_residual-in_err-feed.ensures.1 in
+    rw (p.1, p.2) (
+      _,
+      c.in_ok-n.ensures.reads,
+      λ read given h. unfed c.args.self.now (record { slot = c.args.self.now.slot; text = c.feed.new.self }) _ read given
+          c.in_err-feed.ensures.events h,
+    )
