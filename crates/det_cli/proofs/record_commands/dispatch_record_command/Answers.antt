@@ -7,8 +7,7 @@ use Rattle.det_cli.proofs.ThroughBuffer.{other-word}
 use Rattle.det_cli.proofs.record_commands.dispatch_record_command.Goals as goal
 
 pub record_by_manifest-requires : goal.record_by_manifest-requires
-record_by_manifest-requires g c =
-    let workers = workers-fit (command_value c.args.command.now) c.requires.range in search (rules, workers)
+record_by_manifest-requires g c = search (rules, workers-fit (command_value c.args.command.now) c.requires.range)
 
 pub returns-in-Demo : goal.returns-in-Demo
 returns-in-Demo g c audience =
@@ -46,8 +45,7 @@ pub workers_by_option-requires-in-Upgrade : goal.workers_by_option-requires-in-U
 workers_by_option-requires-in-Upgrade g c = workers-fit (command_value c.args.command.now) c.requires.range
 
 pub chain-requires : goal.chain-requires
-chain-requires g c =
-    let workers = workers-fit (command_value c.args.command.now) c.requires.range in search (rules, workers)
+chain-requires g c = search (rules, workers-fit (command_value c.args.command.now) c.requires.range)
 
 pub returns-in-Chain : goal.returns-in-Chain
 returns-in-Chain g c audience =
