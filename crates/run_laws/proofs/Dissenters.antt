@@ -109,3 +109,6 @@ none_is_named first others cycles h =
     ap (λ (m : Option (List Item)). dissent_by m copies) (majority-is copies given most)
     ∙ (λ i. record { answer = Done; bytes = dissent_text (sym h.count i) (all.1 0 i) })
     ∙ ap (λ (b : List ℕ). record { answer = Done; bytes = b }) (append-nil (number_line (codes "agree") cycles))
+
+-- what the law of `vote --dissent` states
+pub ruleset dissenters = (answered_alike, others_are_named, none_is_named)

@@ -43,7 +43,7 @@ use Rattle.cmd_rerun.specs.upgrade_command.UpgradeVisit.{upgraded_by_kind}
 use Rattle.run_laws.specs.Statements.{IsRunRead, given_again}
 use Rattle.run_laws.proofs.SpelledJob.{IsSpelledJob}
 use Rattle.run_laws.proofs.Shipped.{bank_spelled, cloud_spelled, guard_spelled}
-use Rattle.run_laws.proofs.WholeRecords.{whole_run}
+use Rattle.run_laws.proofs.WholeRecords.{whole_record}
 use Rattle.run_laws.proofs.OfInputs.{departs_not, gives_again, was_given, inputs_are, run_verdict}
 use Rattle.run_laws.proofs.InFormatTwo.{upgraded_read, upgraded_stays}
 
@@ -99,7 +99,7 @@ module _ {S G E L P : Type 0} (m : Meaning S G E L P) (Covers : S → P → ℕ 
   module _ (profile : ProfileValue) (record_bytes : List ℕ) (are : AreBytes record_bytes) (heads : Heads profile record_bytes) where
     sound_run : fault_in record_bytes ≡ None → (run : List Frame) × SpellsWhole profile run record_bytes
     sound_run none =
-        let w = whole_run record_bytes are none in
+        let w = whole_record record_bytes are none in
         let same : w.profile ≡ profile =
         same_profile w.profile profile _ heads.0 (sym (spelled_is_read w.profile w.run record_bytes w.spells.0).items ∙ heads.1) in
         (w.run, subst (λ (p : ProfileValue). SpellsWhole p w.run record_bytes) same w.spells)

@@ -34,14 +34,9 @@ within key least most n e =
 
 whole_value : (key : Key) (least most : ℕ) (value : Data) → value_fault key (whole least most) value ≡ None
     → (least ≤ number_of (Some value)) × (number_of (Some value) ≤ most)
-whole_value key least most (string s) e = absurd cc
 whole_value key least most (integer (pos n)) e = within key least most n e
 whole_value key least most (integer (negsuc n)) e = absurd cc
-whole_value key least most (float x) e = absurd cc
-whole_value key least most (boolean b) e = absurd cc
-whole_value key least most (datetime d) e = absurd cc
-whole_value key least most (array ds) e = absurd cc
-whole_value key least most (table ms) e = absurd cc
+whole_value key least most value e = absurd cc
 
 whole_in : (key : Key) (least most : ℕ) (place : Option Data) → fault_by key true (whole least most) place ≡ None
     → (least ≤ number_of place) × (number_of place ≤ most)
@@ -51,12 +46,7 @@ whole_in key least most (Some value) e = whole_value key least most value e
 text_value : (key : Key) (fits : List ℕ → Bool) (value : Data) → value_fault key (text fits) value ≡ None
     → fits (text_of (Some value)) ≡ true
 text_value key fits (string s) e = holds (fits s) (OutOfRange key) e
-text_value key fits (integer z) e = absurd cc
-text_value key fits (float x) e = absurd cc
-text_value key fits (boolean b) e = absurd cc
-text_value key fits (datetime d) e = absurd cc
-text_value key fits (array ds) e = absurd cc
-text_value key fits (table ms) e = absurd cc
+text_value key fits value e = absurd cc
 
 text_in : (key : Key) (fits : List ℕ → Bool) (place : Option Data) → fault_by key true (text fits) place ≡ None
     → fits (text_of place) ≡ true
@@ -65,12 +55,7 @@ text_in key fits (Some value) e = text_value key fits value e
 
 array_value : (key : Key) (most : ℕ) (value : Data) → value_fault key (array_up_to most) value ≡ None → count_of (Some value) ≤ most
 array_value key most (array ds) e = leb-true (length_of_items ds) most (holds (nat_le (length_of_items ds) most) (OutOfRange key) e)
-array_value key most (string s) e = absurd cc
-array_value key most (integer z) e = absurd cc
-array_value key most (float x) e = absurd cc
-array_value key most (boolean b) e = absurd cc
-array_value key most (datetime d) e = absurd cc
-array_value key most (table ms) e = absurd cc
+array_value key most value e = absurd cc
 
 array_in : (key : Key) (most : ℕ) (place : Option Data) → fault_by key false (array_up_to most) place ≡ None → count_of place ≤ most
 array_in key most None e = omega arith

@@ -31,7 +31,7 @@ use Rattle.cmd_records.specs.salvage_command.Salvage.{outcome_by}
 use Rattle.run_laws.specs.Statements.{frames_by_kind, IsRunRead, IsRecordRead}
 use Rattle.run_laws.specs.Salvages.{IsRecordSalvaged, RecordIsSalvaged, DemoIsSalvaged}
 use Rattle.run_laws.proofs.Commands.{record_read, demo_read}
-use Rattle.run_laws.proofs.Salvaged.{all_kept}
+use Rattle.run_laws.proofs.Salvaged.{all_kept, init_is_enough, whole_is_kept}
 
 -- frames before the end are kept
 all_before : (rs : List RunFrame) → flat_map kept (map items.Frame (map (λ run. Run run) rs ++ [])) ++ Terminate ∷ []
@@ -85,3 +85,6 @@ record_is_salvaged strict manifest stimulus seed m small set =
 pub demo_is_salvaged : DemoIsSalvaged
 unfolding demo_outcome
 demo_is_salvaged stimulus = kind_is_salvaged Bank demo_profile stimulus (demo_read stimulus)
+
+-- what the law of `salvage` states, apart from its longest two clauses
+pub ruleset salvages = (init_is_enough, whole_is_kept, demo_is_salvaged)

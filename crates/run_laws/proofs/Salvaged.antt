@@ -25,7 +25,7 @@ use Rattle.record_reader.specs.InItems.{runs_in}
 use Rattle.cli_answers.specs.declared.answer.Answer.TheVariants.{Done}
 use Rattle.cmd_records.specs.salvage_command.Salvage.{outcome_by, salvage_outcome}
 use Rattle.run_laws.specs.Salvages.{ended, InitIsEnough, IsMadeWhole, SalvagedIsWhole, WholeIsKept}
-use Rattle.run_laws.proofs.WholeRecords.{whole_run}
+use Rattle.run_laws.proofs.WholeRecords.{whole_record}
 
 abbrev last : List Frame
 last = frames.Terminate ∷ []
@@ -41,40 +41,25 @@ runs_ended layout before [] to h = (tt, refl)
 runs_ended layout before (items.Frame (frames.Run r) ∷ rest) to h = (h.0, runs_ended layout (before + 1) rest to h.1)
 runs_ended layout before (items.Frame frames.Terminate ∷ []) to h = (tt, refl)
 runs_ended layout before (items.Frame frames.Terminate ∷ x ∷ rest) to h = elim h.1.0 [ ]
-runs_ended layout before (items.Frame frames.Register ∷ rest) to h = elim h.0 [ ]
-runs_ended layout before (items.Frame frames.Discover ∷ rest) to h = elim h.0 [ ]
-runs_ended layout before (items.Frame (frames.Init elements) ∷ rest) to h = elim h.0 [ ]
-runs_ended layout before (items.Header p ∷ rest) to h = elim h.0 [ ]
+runs_ended layout before (x ∷ rest) to h = elim h.0 [ ]
 
 init_ended : (layout : Layout) (rest : List Item) (to : Place) → AreItems (places.Init layout) rest to → list_any is_init rest ≡ true
     → AreItems (places.Init layout) (as_ended rest) places.End
 init_ended layout [] to h e = absurd cc
 init_ended layout (items.Frame (frames.Init elements) ∷ rest) to h e = (h.0, runs_ended layout 0 rest to h.1)
-init_ended layout (items.Frame frames.Register ∷ rest) to h e = elim h.0 [ ]
-init_ended layout (items.Frame frames.Discover ∷ rest) to h e = elim h.0 [ ]
-init_ended layout (items.Frame (frames.Run r) ∷ rest) to h e = elim h.0 [ ]
-init_ended layout (items.Frame frames.Terminate ∷ rest) to h e = elim h.0 [ ]
-init_ended layout (items.Header p ∷ rest) to h e = elim h.0 [ ]
+init_ended layout (x ∷ rest) to h e = elim h.0 [ ]
 
 discover_ended : (layout : Layout) (rest : List Item) (to : Place) → AreItems (places.Discover layout) rest to
     → list_any is_init rest ≡ true → AreItems (places.Discover layout) (as_ended rest) places.End
 discover_ended layout [] to h e = absurd cc
 discover_ended layout (items.Frame frames.Discover ∷ rest) to h e = (tt, init_ended layout rest to h.1 e)
-discover_ended layout (items.Frame frames.Register ∷ rest) to h e = elim h.0 [ ]
-discover_ended layout (items.Frame (frames.Init elements) ∷ rest) to h e = elim h.0 [ ]
-discover_ended layout (items.Frame (frames.Run r) ∷ rest) to h e = elim h.0 [ ]
-discover_ended layout (items.Frame frames.Terminate ∷ rest) to h e = elim h.0 [ ]
-discover_ended layout (items.Header p ∷ rest) to h e = elim h.0 [ ]
+discover_ended layout (x ∷ rest) to h e = elim h.0 [ ]
 
 register_ended : (layout : Layout) (rest : List Item) (to : Place) → AreItems (places.Register layout) rest to
     → list_any is_init rest ≡ true → AreItems (places.Register layout) (as_ended rest) places.End
 register_ended layout [] to h e = absurd cc
 register_ended layout (items.Frame frames.Register ∷ rest) to h e = (tt, discover_ended layout rest to h.1 e)
-register_ended layout (items.Frame frames.Discover ∷ rest) to h e = elim h.0 [ ]
-register_ended layout (items.Frame (frames.Init elements) ∷ rest) to h e = elim h.0 [ ]
-register_ended layout (items.Frame (frames.Run r) ∷ rest) to h e = elim h.0 [ ]
-register_ended layout (items.Frame frames.Terminate ∷ rest) to h e = elim h.0 [ ]
-register_ended layout (items.Header p ∷ rest) to h e = elim h.0 [ ]
+register_ended layout (x ∷ rest) to h e = elim h.0 [ ]
 
 -- frames in their places up to the end spell a whole record
 spelling_of : (profile : ProfileValue) (run : List Frame) → AreItems places.Header (items_of profile run) places.End
@@ -142,7 +127,7 @@ whole_salvaged profile run bytes s =
 
 pub whole_is_kept : WholeIsKept
 whole_is_kept record_bytes are none =
-    let w = whole_run record_bytes are none in
+    let w = whole_record record_bytes are none in
     ap (λ (saved : Option (List ℕ)). outcome_by saved (fault_in record_bytes)) (whole_salvaged w.profile w.run record_bytes w.spells)
 
 -- ---- where it is done
@@ -157,7 +142,7 @@ module _ (record_bytes : List ℕ) (are : AreBytes record_bytes) where
   -- a record from which nothing is salvaged has a fault
   has_fault : salvaged record_bytes ≡ None → fault_in record_bytes ≡ None → ⊥
   has_fault nothing none =
-      let w = whole_run record_bytes are none in
+      let w = whole_record record_bytes are none in
       let some = whole_salvaged w.profile w.run record_bytes w.spells in
       cc
 

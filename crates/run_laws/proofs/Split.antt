@@ -17,6 +17,7 @@ use Rattle.record_grammar.specs.Record.{items as items_in}
 use Rattle.record_grammar.specs.Spelling.{AreBytes, spelled}
 use Rattle.record_grammar.specs.Laws.{AreItems, items_of, items_spelling}
 use Rattle.record_grammar.proofs.Leads.{all_at_more}
+use Rattle.record_grammar.proofs.lemmas.record_laws.AfterHeader.{all_frames}
 use Rattle.record_grammar.proofs.lemmas.record_laws.Order.{in_order}
 use Rattle.record_grammar.proofs.lemmas.record_laws.Whole.{nil_more, all_leads_on, decoded_is}
 use Rattle.cmd_records.specs.voter.Majority.{majority, are_held, common, spelled_items}
@@ -30,7 +31,6 @@ use Rattle.cli_answers.specs.Outcome.{Outcome}
 use Rattle.cmd_records.specs.vote_command.Vote.{voted_by, vote_outcome}
 use Rattle.run_laws.specs.Votes.{IsMajority, beginning_with, AreCommon, SplitIsCommon}
 use Rattle.run_laws.proofs.Voted.{fewer, one-passes, majority_is_written}
-use Rattle.run_laws.proofs.WholeRecords.{all_frames}
 
 -- ---- the first items of a record
 
@@ -49,7 +49,7 @@ spelled_is : (xs : List Item) (to : Place) → AreItems places.Header xs to → 
 spelled_is [] to h = refl
 spelled_is (items.Frame f ∷ xs) to h = elim h.0 [ ]
 spelled_is (items.Header p ∷ xs) to h =
-    let fs = all_frames xs (places.Register (layout_of p)) to tt h.1 in
+    let fs = all_frames (layout_of p) xs (places.Register (layout_of p)) to refl h.1 in
     let run : List Frame = fs.0 in
     let in_places = subst (λ (ys : List Item). AreItems places.Header (items.Header p ∷ ys) to) fs.1 h in
     let s = (in_order p run (items_spelling places.Header (items_of p run))).begun.1 (to, in_places, refl) in

@@ -1,5 +1,5 @@
--- A record without a fault is the spelling of a profile and of the frames of a run.
-use Rattle.std.proofs.Common.{◌≡◌, ℕ, suc, List, [], ◌∷◌, ◌++◌, length, map, None, refl, ap, subst, ◌∙◌}
+-- A record without a fault is the spelling of a profile and of the frames of a run, and what is read of it.
+use Rattle.std.proofs.Common.{◌≡◌, ℕ, suc, List, [], ◌∷◌, ◌++◌, length, map, None, refl, ap, ◌∙◌}
 use Rattle.std.specs.List.{flat_map, All}
 use Rattle.std.proofs.lemmas.List.Elements.{All-nil, All-cons, All-head, All-tail}
 use Rattle.det_values.specs.Values.{ProfileValue}
@@ -7,73 +7,23 @@ use Rattle.det_values.specs.declared.format.Format.{Format}
 use Rattle.det_values.specs.declared.frames.RunFrame.{RunFrame}
 use Rattle.det_values.specs.declared.frames.Frame.{Frame}
 use Rattle.det_values.specs.declared.frames.Frame.TheVariants as frames
-use Rattle.record_grammar.specs.declared.place.Place.{Place}
-use Rattle.record_grammar.specs.declared.place.Place.TheVariants as places
 use Rattle.record_grammar.specs.declared.item.Item.{Item}
 use Rattle.record_grammar.specs.declared.item.Item.TheVariants as items
-use Rattle.record_grammar.specs.Places.{after, layout_of}
 use Rattle.record_grammar.specs.Record.{items as items_in, fault as fault_in}
-use Rattle.record_grammar.specs.Spelling.{AreBytes, IsInput, IsFrame, AreRun, SpellsWhole}
-use Rattle.record_grammar.specs.Laws.{MayStand, AreItems, IsWhole, items_of, items_spelling}
-use Rattle.record_grammar.proofs.lemmas.record_laws.Order.{in_order}
+use Rattle.record_grammar.specs.Spelling.{AreBytes, IsInput, IsFrame, AreRun}
+use Rattle.record_grammar.specs.Laws.{items_of}
+use Rattle.record_grammar.proofs.lemmas.record_laws.Order.{IsWholeRun, whole_run}
 use Rattle.record_grammar.proofs.lemmas.record_laws.Whole.{decoded_is}
 use Rattle.rerun.specs.replayer.ReplayRecord.{input_in}
 use Rattle.rerun.specs.checker.Departure.{frames_in}
 use Rattle.record_reader.specs.InItems.{frame_in}
 
--- ---- items behind a header
-
-abbrev pub IsBehind : Place → Type 0
-IsBehind places.Header = ⊥
-IsBehind place = Unit {0}
-
-still_behind : (place : Place) (f : Frame) → MayStand place (items.Frame f) → IsBehind (after place (items.Frame f))
-still_behind (places.Register layout) frames.Register h = tt
-still_behind (places.Discover layout) frames.Discover h = tt
-still_behind (places.Init layout) (frames.Init elements) h = tt
-still_behind (places.Runs layout before) (frames.Run r) h = tt
-still_behind (places.Runs layout before) frames.Terminate h = tt
-still_behind place f h = elim h [ ]
-
-no_header : (place : Place) (p : ProfileValue) → IsBehind place → MayStand place (items.Header p) → ⊥
-no_header places.Header p b h = b
-no_header (places.Register layout) p b h = h
-no_header (places.Discover layout) p b h = h
-no_header (places.Init layout) p b h = h
-no_header (places.Runs layout before) p b h = h
-no_header places.End p b h = h
-
--- they are frames
-pub all_frames : (xs : List Item) (place to : Place) → IsBehind place → AreItems place xs to → (fs : List Frame) × (xs ≡ map items.Frame fs)
-all_frames [] place to b h = ([], refl)
-all_frames (items.Header p ∷ xs) place to b h = absurd (no_header place p b h.0)
-all_frames (items.Frame f ∷ xs) place to b h =
-    let rest = all_frames xs (after place (items.Frame f)) to (still_behind place f h.0) h.1 in
-    (f ∷ rest.0, ap (λ (ys : List Item). items.Frame f ∷ ys) rest.1)
-
--- ---- whole records
-
--- the profile and the frames of a whole record
-pub record IsWholeRun (record_bytes : List ℕ) : Type 0 where
-  pub profile : ProfileValue
-  pub run : List Frame
-  pub spells : SpellsWhole profile run record_bytes
-
-pub whole_run : (record_bytes : List ℕ) → AreBytes record_bytes → fault_in record_bytes ≡ None → IsWholeRun record_bytes
-whole_run record_bytes are none = by ((decoded_is record_bytes are).whole none)
-  where
-    by : IsWhole record_bytes → IsWholeRun record_bytes
-    by ([], h, e) = absurd cc
-    by (items.Frame f ∷ xs, h, e) = elim h.0 [ ]
-    by (items.Header p ∷ xs, h, e) =
-        let fs = all_frames xs (places.Register (layout_of p)) places.End tt h.1 in
-        let in_place = subst (λ (ys : List Item). AreItems places.Header (items.Header p ∷ ys) places.End) fs.1 h in
-        record {
-          profile = p;
-          run = fs.0;
-          spells = (in_order p fs.0 record_bytes).whole.1
-              (in_place, e ∙ ap (λ (ys : List Item). items_spelling places.Header (items.Header p ∷ ys)) fs.1);
-        }
+-- a record without a fault is that of a profile and of the frames of a run
+pub whole_record : (record_bytes : List ℕ) (are : AreBytes record_bytes) (none : fault_in record_bytes ≡ None)
+    → IsWholeRun ((decoded_is record_bytes are).whole none).0 record_bytes
+whole_record record_bytes are none =
+    let w = (decoded_is record_bytes are).whole none in
+    whole_run w.0 record_bytes w.1 w.2
 
 -- ---- what is read of a record
 

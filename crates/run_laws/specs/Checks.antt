@@ -1,24 +1,14 @@
 -- What `check` says of the record of a run, when it is done, and what `upgrade` makes of a genuine
 -- record.
-use Rattle.std.specs.Prelude.{◌≡◌, ℕ, ◌^◌, ◌<◌, ◌↔◌, List, ◌++◌, length, Bool, Option, Some, None}
-use Rattle.std.specs.Prelude.{Ok, codes}
+use Rattle.std.specs.Prelude.{◌≡◌, ℕ, ◌↔◌, List, ◌++◌, length, Bool, Option, Some, None, codes}
 use Rattle.std.specs.List.{flat_map}
-use Rattle.std.specs.Option.{unwrap_or}
 use Rattle.det_values.specs.declared.format.Format.TheVariants.{Two}
-use Rattle.det_values.specs.declared.frames.CycleInput.{CycleInput}
 use Rattle.det_values.specs.declared.frames.Frame.{Frame}
-use Rattle.det_values.specs.Values.{ProfileValue}
-use Rattle.jobs.specs.bank.Meaning as bank
-use Rattle.cycle_engine.specs.Frames.{frames}
 use Rattle.record_grammar.specs.declared.record_fault.RecordFault.{RecordFault}
 use Rattle.record_grammar.specs.Record.{items}
 use Rattle.record_grammar.specs.Spelling.{AreBytes}
 use Rattle.stimulus.specs.Reading.{blocks, ending}
 use Rattle.recorder.specs.Record.{is_terminated}
-use Rattle.manifest.specs.Values.{ManifestValue}
-use Rattle.manifest.specs.Profiles.{profile_of}
-use Rattle.run_setup.specs.Setup.{setup_of}
-use Rattle.cmd_run.specs.record_command.Outcomes.{demo_profile, demo_outcome, record_outcome}
 use Rattle.probes.specs.Reports.{AudienceState, reported}
 use Rattle.record_text.specs.Words.{number_line}
 use Rattle.cmd_records.specs.record_show.Text.{format_in}
@@ -29,7 +19,7 @@ use Rattle.cli_answers.specs.Outcome.{Outcome, refusal}
 use Rattle.cmd_rerun.specs.replay_command.Replay.{replay_outcome}
 use Rattle.cmd_rerun.specs.check_command.Check.{check_outcome}
 use Rattle.cmd_rerun.specs.upgrade_command.Upgrade.{upgrade_outcome}
-use Rattle.run_laws.specs.Statements.{frames_by_kind, fault_if, given_again}
+use Rattle.run_laws.specs.Statements.{RecordLaw, OfRecord, OfDemo, fault_if, given_again}
 
 -- What `check` gives for the record of a run. If the run ended, this is `genuine` with the number
 -- of its cycles, and what an audience reports of them; or else the fault at its end.
@@ -42,8 +32,7 @@ checked_of audience run None = record {
 checked_of audience run (Some fault) = refusal (BadRecord 0 fault)
 
 -- the same for the run over the blocks of a stimulus
-abbrev pub IsRecordChecked : ProfileValue → (List CycleInput → Bool → List Frame) → List ℕ → List ℕ
-    → Type 0
+abbrev pub IsRecordChecked : RecordLaw
 IsRecordChecked profile run stimulus bytes =
     let ended : Bool = is_terminated (ending (length profile.events) stimulus) in
     (audience : AudienceState) → check_outcome audience bytes
@@ -52,18 +41,11 @@ IsRecordChecked profile run stimulus bytes =
 
 -- what `check` gives for what `record` writes, if the manifest is accepted
 abbrev pub RecordIsChecked : Type 0
-RecordIsChecked =
-    (strict : Bool) (manifest stimulus : List ℕ) (seed : Option ℕ) (m : ManifestValue)
-    → unwrap_or seed 0 < 2 ^ 64 → setup_of strict manifest ≡ Ok m
-    → IsRecordChecked (profile_of m (unwrap_or seed 0))
-    (frames_by_kind m.kind (profile_of m (unwrap_or seed 0))) stimulus
-    (record_outcome strict manifest stimulus seed).bytes
+RecordIsChecked = OfRecord IsRecordChecked
 
 -- and for what `demo` writes
 abbrev pub DemoIsChecked : Type 0
-DemoIsChecked =
-    (stimulus : List ℕ) → IsRecordChecked demo_profile (frames bank.meaning demo_profile) stimulus
-    (demo_outcome stimulus).bytes
+DemoIsChecked = OfDemo IsRecordChecked
 
 -- `check` is done for these bytes
 abbrev pub IsGenuine : AudienceState → List ℕ → Type 0

@@ -1,14 +1,10 @@
 -- What `salvage` makes of a record.
-use Rattle.std.specs.Prelude.{◌≡◌, ℕ, ◌^◌, ◌<◌, ◌↔◌, List, [], ◌∷◌, ◌++◌, length, Bool, true}
-use Rattle.std.specs.Prelude.{Option, None, Ok}
+use Rattle.std.specs.Prelude.{◌≡◌, ℕ, ◌↔◌, List, [], ◌∷◌, ◌++◌, length, Bool, true, None}
 use Rattle.std.specs.List.{flat_map, list_any}
-use Rattle.std.specs.Option.{unwrap_or}
 use Rattle.det_values.specs.declared.frames.CycleInput.{CycleInput}
 use Rattle.det_values.specs.declared.frames.Frame.{Frame}
 use Rattle.det_values.specs.declared.frames.Frame.TheVariants.{Terminate}
 use Rattle.det_values.specs.Values.{ProfileValue}
-use Rattle.jobs.specs.bank.Meaning as bank
-use Rattle.cycle_engine.specs.Frames.{frames}
 use Rattle.record_grammar.specs.declared.item.Item.{Item}
 use Rattle.record_grammar.specs.declared.item.Item.TheVariants as items
 use Rattle.record_grammar.specs.Record.{items as items_in, fault}
@@ -18,13 +14,9 @@ use Rattle.record_reader.specs.Salvaged.{kept, is_init}
 use Rattle.record_reader.specs.InItems.{runs_in}
 use Rattle.stimulus.specs.Reading.{blocks, ending}
 use Rattle.recorder.specs.Record.{is_terminated}
-use Rattle.manifest.specs.Values.{ManifestValue}
-use Rattle.manifest.specs.Profiles.{profile_of}
-use Rattle.run_setup.specs.Setup.{setup_of}
-use Rattle.cmd_run.specs.record_command.Outcomes.{demo_profile, demo_outcome, record_outcome}
 use Rattle.cli_answers.specs.declared.answer.Answer.TheVariants.{Done}
 use Rattle.cmd_records.specs.salvage_command.Salvage.{salvage_outcome}
-use Rattle.run_laws.specs.Statements.{frames_by_kind}
+use Rattle.run_laws.specs.Statements.{OfRecord, OfDemo}
 
 -- the header and the frames of these items, ended by Terminate
 abbrev pub ended : List Item → List Item
@@ -67,16 +59,8 @@ pub record IsRecordSalvaged (profile : ProfileValue) (run : List CycleInput → 
 
 -- what `salvage` gives for what `record` writes, if the manifest is accepted
 abbrev pub RecordIsSalvaged : Type 0
-RecordIsSalvaged =
-    (strict : Bool) (manifest stimulus : List ℕ) (seed : Option ℕ) (m : ManifestValue)
-    → unwrap_or seed 0 < 2 ^ 64 → setup_of strict manifest ≡ Ok m
-    → IsRecordSalvaged (profile_of m (unwrap_or seed 0))
-    (frames_by_kind m.kind (profile_of m (unwrap_or seed 0))) stimulus
-    (record_outcome strict manifest stimulus seed).bytes
+RecordIsSalvaged = OfRecord IsRecordSalvaged
 
 -- and for what `demo` writes
 abbrev pub DemoIsSalvaged : Type 0
-DemoIsSalvaged =
-    (stimulus : List ℕ)
-    → IsRecordSalvaged demo_profile (frames bank.meaning demo_profile) stimulus
-    (demo_outcome stimulus).bytes
+DemoIsSalvaged = OfDemo IsRecordSalvaged

@@ -31,6 +31,25 @@ use Rattle.cmd_rerun.specs.replay_command.Replay.{replay_outcome}
 abbrev pub frames_by_kind : JobKind → ProfileValue → List CycleInput → Bool → List Frame
 frames_by_kind kind profile = by_kind (λ S G E L P m. frames m profile) kind
 
+-- what is said of a profile, of its run over any inputs, of a stimulus, and of the record's bytes
+abbrev pub RecordLaw : Type 1
+RecordLaw = ProfileValue → (List CycleInput → Bool → List Frame) → List ℕ → List ℕ → Type 0
+
+-- said of what `record` writes for each manifest that is accepted; the seed is 0 if none is given
+abbrev pub OfRecord : RecordLaw → Type 0
+OfRecord Law =
+    (strict : Bool) (manifest stimulus : List ℕ) (seed : Option ℕ) (m : ManifestValue)
+    → unwrap_or seed 0 < 2 ^ 64 → setup_of strict manifest ≡ Ok m
+    → Law (profile_of m (unwrap_or seed 0))
+    (frames_by_kind m.kind (profile_of m (unwrap_or seed 0))) stimulus
+    (record_outcome strict manifest stimulus seed).bytes
+
+-- said of what `demo` writes
+abbrev pub OfDemo : RecordLaw → Type 0
+OfDemo Law =
+    (stimulus : List ℕ)
+    → Law demo_profile (frames bank.meaning demo_profile) stimulus (demo_outcome stimulus).bytes
+
 -- the record of a run that ended has no fault, and that of any other run is only truncated
 abbrev pub fault_if : Bool → List ℕ → Option RecordFault
 fault_if true bytes = None
@@ -43,26 +62,18 @@ pub record IsRunRead (profile : ProfileValue) (run : List Frame) (ended : Bool) 
   pub fault : fault bytes ≡ fault_if ended bytes
 
 -- the same for the run over the blocks of a stimulus, ended if the stimulus is
-abbrev pub IsRecordRead : ProfileValue → (List CycleInput → Bool → List Frame) → List ℕ → List ℕ
-    → Type 0
+abbrev pub IsRecordRead : RecordLaw
 IsRecordRead profile run stimulus bytes =
     let ended : Bool = is_terminated (ending (length profile.events) stimulus) in
     IsRunRead profile (run (blocks (length profile.events) stimulus) ended) ended bytes
 
--- what `record` writes, if the manifest is accepted; the seed is 0 if none is given
+-- what `record` writes, if the manifest is accepted
 abbrev pub RecordIsRead : Type 0
-RecordIsRead = (strict : Bool) (manifest stimulus : List ℕ) (seed : Option ℕ) (m : ManifestValue)
-    → unwrap_or seed 0 < 2 ^ 64 → setup_of strict manifest ≡ Ok m
-    → IsRecordRead (profile_of m (unwrap_or seed 0))
-    (frames_by_kind m.kind (profile_of m (unwrap_or seed 0))) stimulus
-    (record_outcome strict manifest stimulus seed).bytes
+RecordIsRead = OfRecord IsRecordRead
 
 -- what `demo` writes
 abbrev pub DemoIsRead : Type 0
-DemoIsRead =
-    (stimulus : List ℕ)
-    → IsRecordRead demo_profile (frames bank.meaning demo_profile) stimulus
-    (demo_outcome stimulus).bytes
+DemoIsRead = OfDemo IsRecordRead
 
 -- What `show` gives for the record of a run: the lines of its profile and of its frames. If the run
 -- ended, what an audience reports of its cycles comes after them.
@@ -73,8 +84,7 @@ shown_of audience profile run end = record {
 }
 
 -- the same for the run over the blocks of a stimulus
-abbrev pub IsRecordShown : ProfileValue → (List CycleInput → Bool → List Frame) → List ℕ → List ℕ
-    → Type 0
+abbrev pub IsRecordShown : RecordLaw
 IsRecordShown profile run stimulus bytes =
     let ended : Bool = is_terminated (ending (length profile.events) stimulus) in
     (audience : AudienceState) → show_outcome All audience bytes
@@ -83,18 +93,11 @@ IsRecordShown profile run stimulus bytes =
 
 -- what `show` gives for what `record` writes, if the manifest is accepted
 abbrev pub RecordIsShown : Type 0
-RecordIsShown =
-    (strict : Bool) (manifest stimulus : List ℕ) (seed : Option ℕ) (m : ManifestValue)
-    → unwrap_or seed 0 < 2 ^ 64 → setup_of strict manifest ≡ Ok m
-    → IsRecordShown (profile_of m (unwrap_or seed 0))
-    (frames_by_kind m.kind (profile_of m (unwrap_or seed 0))) stimulus
-    (record_outcome strict manifest stimulus seed).bytes
+RecordIsShown = OfRecord IsRecordShown
 
 -- and for what `demo` writes
 abbrev pub DemoIsShown : Type 0
-DemoIsShown =
-    (stimulus : List ℕ) → IsRecordShown demo_profile (frames bank.meaning demo_profile) stimulus
-    (demo_outcome stimulus).bytes
+DemoIsShown = OfDemo IsRecordShown
 
 -- the same bytes again, and the answer by this fault
 abbrev pub given_again : List ℕ → Option RecordFault → Outcome
@@ -109,13 +112,8 @@ IsRecordReplayed profile stimulus bytes =
 
 -- what `replay` gives for what `record` writes, if the manifest is accepted
 abbrev pub RecordIsReplayed : Type 0
-RecordIsReplayed =
-    (strict : Bool) (manifest stimulus : List ℕ) (seed : Option ℕ) (m : ManifestValue)
-    → unwrap_or seed 0 < 2 ^ 64 → setup_of strict manifest ≡ Ok m
-    → IsRecordReplayed (profile_of m (unwrap_or seed 0)) stimulus
-    (record_outcome strict manifest stimulus seed).bytes
+RecordIsReplayed = OfRecord (λ profile run. IsRecordReplayed profile)
 
 -- and for what `demo` writes
 abbrev pub DemoIsReplayed : Type 0
-DemoIsReplayed =
-    (stimulus : List ℕ) → IsRecordReplayed demo_profile stimulus (demo_outcome stimulus).bytes
+DemoIsReplayed = OfDemo (λ profile run. IsRecordReplayed profile)

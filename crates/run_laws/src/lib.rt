@@ -65,6 +65,7 @@ pub fn split_law()
 /// `vote --dissent` has the same answer as `vote`. If it is done, the copies that it names are
 /// exactly those that aren't the record that `vote` writes, byte for byte. If all copies are one
 /// whole record, it names none.
+#[tactic(auto, using(crate::proofs::Dissenters::dissenters))]
 pub fn dissent_law()
     ensures answer { AnsweredAlike }
     ensures named { OthersAreNamed }
@@ -107,6 +108,7 @@ pub fn upgrade_law()
 ///
 /// A whole record comes out unchanged, byte for byte, and so does the record of a run. If a bad
 /// line ended the stimulus, the output is the record of the complete blocks, ended.
+#[tactic(auto, using(crate::proofs::RecordsSalvaged::salvages))]
 pub fn salvage_law()
     ensures done { InitIsEnough }
     ensures whole { SalvagedIsWhole }
