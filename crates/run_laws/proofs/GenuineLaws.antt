@@ -18,7 +18,8 @@ use Rattle.cli_answers.specs.declared.answer.Answer.TheVariants.{Done}
 use Rattle.cli_answers.specs.Outcome.{Outcome}
 use Rattle.run_setup.specs.declared.recorded_run.bad_run.BadRun.{BadRun}
 use Rattle.run_setup.specs.declared.recorded_run.bad_run.BadRun.TheVariants.{Fault, Profile}
-use Rattle.run_setup.specs.recorded_run.Run.{RunValue, taking, kind_of, run_by, run_of}
+use Rattle.run_setup.specs.recorded_run.Run.{RunValue, taking, kind_of, run_of}
+use Rattle.run_setup.proofs.lemmas.recorded_run.Items.{run_by_items, run-by-items}
 use Rattle.cmd_rerun.specs.upgrade_command.UpgradeVisit.{upgraded_by_kind}
 use Rattle.run_laws.proofs.NamedRuns.{run_with, replayed_by, checked_by, upgraded_by}
 use Rattle.run_laws.specs.Statements.{given_again}
@@ -43,7 +44,7 @@ record Names (xs : List Item) (run : RunValue) : Type 0 where
   pub header : xs ≡ items.Header run.profile ∷ rest
   pub kind : kind_of run.profile ≡ Some run.kind
 
-names : (xs : List Item) (end : Option RecordFault) (run : RunValue) → run_by xs end ≡ Ok run → Names xs run
+names : (xs : List Item) (end : Option RecordFault) (run : RunValue) → run_by_items xs end ≡ Ok run → Names xs run
 names [] None run e = absurd cc
 names [] (Some fault) run e = absurd cc
 names (items.Frame f ∷ xs) None run e = absurd cc
@@ -63,7 +64,7 @@ kind_in_two None profile = refl
 kind_in_two (Some kind) profile = refl
 
 run_in_two : (run : RunValue) (rest : List Item) (end : Option RecordFault) → kind_of run.profile ≡ Some run.kind
-    → run_by (items.Header (in_format_two run.profile) ∷ rest) end ≡ Ok (a_run run.kind (in_format_two run.profile))
+    → run_by_items (items.Header (in_format_two run.profile) ∷ rest) end ≡ Ok (a_run run.kind (in_format_two run.profile))
 run_in_two run rest end takes =
     ap (λ (kind : Option JobKind). run_with kind (in_format_two run.profile))
     (kind_in_two (kind_of_number run.profile.job) run.profile ∙ takes)
@@ -78,7 +79,7 @@ genuine_by audience record_bytes are (Err (Fault fault)) e =
 genuine_by audience record_bytes are (Err Profile) e =
     (λ h. absurd cc, λ h. let answer = ap (λ (o : Outcome). o.answer) h in absurd cc)
 genuine_by audience record_bytes are (Ok run) e =
-    let n = names (items_in record_bytes) (fault_in record_bytes) run e in
+    let n = names (items_in record_bytes) (fault_in record_bytes) run (sym (run-by-items record_bytes) ∙ e) in
     (kind_go_together run.kind audience run.profile record_bytes are (n.rest, n.header)).replayed
 
 pub genuine_is_replayed : GenuineIsReplayed
@@ -98,11 +99,12 @@ upgraded_by_run : (audience : AudienceState) (record_bytes : List ℕ) → AreBy
 upgraded_by_run audience record_bytes are (Err (Fault fault)) e h = absurd cc
 upgraded_by_run audience record_bytes are (Err Profile) e h = absurd cc
 upgraded_by_run audience record_bytes are (Ok run) e h =
-    let n = names (items_in record_bytes) (fault_in record_bytes) run e in
+    let n = names (items_in record_bytes) (fault_in record_bytes) run (sym (run-by-items record_bytes) ∙ e) in
     let is = (kind_go_together run.kind audience run.profile record_bytes are (n.rest, n.header)).upgraded h in
     let more : List ℕ = (upgraded_by_kind run.kind run.profile record_bytes).bytes in
     let replay_record : run_of more ≡ Ok (a_run run.kind (in_format_two run.profile)) =
-    ap (λ (xs : List Item). run_by xs (fault_in more)) is.items ∙ run_in_two run (map items.Frame is.run) (fault_in more) n.kind in
+    run-by-items more ∙ ap (λ (xs : List Item). run_by_items xs (fault_in more)) is.items
+    ∙ run_in_two run (map items.Frame is.run) (fault_in more) n.kind in
     record {
       done = is.done;
       inputs = is.inputs;

@@ -24,7 +24,8 @@ use Rattle.recorder.specs.run_writer.Record.{record_with}
 use Rattle.stimulus.specs.Reading.{blocks, ending}
 use Rattle.recorder.specs.Record.{is_terminated, record_of}
 use Rattle.rerun.specs.replayer.ReplayRecord.{input_in, inputs, is_whole, replay_record}
-use Rattle.run_setup.specs.recorded_run.Run.{taking, run_of, run_by}
+use Rattle.run_setup.specs.recorded_run.Run.{taking, run_of}
+use Rattle.run_setup.proofs.lemmas.recorded_run.Items.{run_by_items, run-by-items}
 use Rattle.cmd_rerun.specs.replay_command.Replay.{replayed_with}
 use Rattle.cmd_rerun.specs.replay_command.ReplayVisit.{replayed}
 use Rattle.cmd_run.specs.record_command.Outcomes.{recorded_by_kind}
@@ -88,7 +89,8 @@ pub record IsOfKind (kind : JobKind) (profile : ProfileValue) : Type 0 where
 pub run_is : (kind : JobKind) (profile : ProfileValue) (run : List Frame) (bytes : List ℕ) → IsOfKind kind profile
     → items_in bytes ≡ items_of profile run → run_of bytes ≡ Ok (record { kind = kind; profile = profile })
 run_is kind profile run bytes of read =
-    ap (λ xs. run_by xs (fault_in bytes)) read
+    run-by-items bytes
+    ∙ ap (λ xs. run_by_items xs (fault_in bytes)) read
     ∙ ap (λ n. run_with (option_and_then (taking profile) (kind_of_number n)) profile) of.number
     ∙ ap (λ o. run_with (option_and_then (taking profile) o) profile) (number_names kind)
     ∙ ap (λ (bad : Option ℕ). run_with (cond (is_none bad) (Some kind) None) profile) of.good

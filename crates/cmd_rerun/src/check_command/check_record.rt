@@ -1,12 +1,12 @@
 //! The command `check`: opens the record, checks it by a crew, and prints the verdict.
-ghost use Rattle.std.specs.Prelude.{◌≡◌, ◌≢◌, ℕ, List, ◌∷◌, [], ◌++◌, true, length, None, Some};
+ghost use Rattle.std.specs.Prelude.{◌≡◌, ◌≢◌, ℕ, List, ◌∷◌, [], ◌++◌, true, Some};
 ghost use Rattle.det_io.specs.Count.{Rose};
 ghost use Rattle.det_io.specs.Shelf.{AsksPrefix};
 ghost use Rattle.det_io.specs.Traffic.{shelf_run, sink_run};
 ghost use Rattle.record_grammar.specs.declared.item.Item.TheVariants as items;
 ghost use Rattle.record_reader.specs.Frames.{IsOpen, StandsFor, slot_of};
 ghost use Rattle.probes.specs.Shows.{seen};
-ghost use Rattle.jobs.specs.Kinds.{bad_param};
+ghost use Rattle.shipped_crews.specs.Runs.{IsGoodRun};
 ghost use Rattle.cli_answers.specs.Ends.{can_end, compares_runs};
 ghost use Rattle.cli_answers.specs.Outcome.{Meets, KnowsBytes, known_bytes};
 ghost use Rattle.cli_answers.specs.Slots.{KeepsSlots};
@@ -37,7 +37,7 @@ where
     S: Slots,
     K: Sink,
     R: Threads,
-    requires good { bad_param run.kind run.profile.params (length run.profile.events) ≡ None }
+    requires good { IsGoodRun run.kind run.profile }
     requires opened { IsOpen run.frames run.profile (S.sees shelf.old) }
     ensures rerun { IsRerun
         (checked run.kind run.profile (seen (λ b. life (b.vtable, b.value)) audience.old))

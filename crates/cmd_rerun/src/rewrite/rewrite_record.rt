@@ -1,10 +1,10 @@
 //! The commands `replay` and `upgrade`: open a record, and rewrite it by a crew.
-ghost use Rattle.std.specs.Prelude.{◌≡◌, ◌∷◌, [], true, length, None};
+ghost use Rattle.std.specs.Prelude.{◌≡◌, ◌∷◌, [], true};
 ghost use Rattle.det_io.specs.Count.{Rose};
 ghost use Rattle.det_io.specs.Shelf.{AsksPrefix};
 ghost use Rattle.det_io.specs.Traffic.{shelf_run, sink_run};
 ghost use Rattle.record_reader.specs.Frames.{IsOpen};
-ghost use Rattle.jobs.specs.Kinds.{bad_param};
+ghost use Rattle.shipped_crews.specs.Runs.{IsGoodRun};
 ghost use Rattle.cli_answers.specs.Ends.{can_end, reruns_records, compares_runs};
 ghost use Rattle.cli_answers.specs.Outcome.{Meets, KnowsBytes, known_bytes};
 ghost use Rattle.cli_answers.specs.Slots.{KeepsSlots};
@@ -34,7 +34,7 @@ where
     S: Slots,
     K: Sink,
     R: Threads,
-    requires good { bad_param run.kind run.profile.params (length run.profile.events) ≡ None }
+    requires good { IsGoodRun run.kind run.profile }
     requires opened { IsOpen run.frames run.profile (S.sees shelf.old) }
     ensures { IsRerun (rewritten rewrite run.kind run.profile) (work_of rewrite) run.profile
         run.frames (shelf_run S.sees S.stays shelf.old shelf.new)

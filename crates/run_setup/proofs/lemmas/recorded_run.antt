@@ -1,4 +1,5 @@
 pub mod Ending
 pub mod Resting
 pub mod Beginning
+pub mod Items
 pub mod Telling

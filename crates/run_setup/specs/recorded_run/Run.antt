@@ -1,5 +1,5 @@
 -- The run that a record's header names.
-use Rattle.std.specs.Prelude.{ℕ, List, ◌∷◌, length, Option, Some, None, Result, Ok, Err}
+use Rattle.std.specs.Prelude.{ℕ, ◌-◌, List, length, Option, Some, None, Result, Ok, Err}
 use Rattle.std.specs.Prelude.{is_none, ok_or, option_map, option_and_then, if◌then◌else◌}
 use Rattle.det_values.specs.Values.{ProfileValue}
 use Rattle.det_values.specs.Jobs.{kind_of_number}
@@ -9,9 +9,9 @@ use Rattle.det_io.specs.declared.failure.Stopped.TheVariants.{Refused, Failed}
 use Rattle.job.specs.Meaning.{Meaning}
 use Rattle.jobs.specs.Kinds.{bad_param, by_kind}
 use Rattle.record_grammar.specs.declared.record_fault.RecordFault.{RecordFault}
-use Rattle.record_grammar.specs.declared.item.Item.{Item}
-use Rattle.record_grammar.specs.declared.item.Item.TheVariants.{Header}
-use Rattle.record_grammar.specs.Record.{items as items_in, fault as fault_in}
+use Rattle.record_grammar.specs.declared.record_fault.Reason.TheVariants.{Truncated}
+use Rattle.record_grammar.specs.Read.{Read, Got, More, Bad}
+use Rattle.record_grammar.specs.Grammar.{profile_at}
 use Rattle.cli_answers.specs.declared.answer.Answer.{Answer}
 use Rattle.cli_answers.specs.declared.answer.Answer.TheVariants.{BadRecord, BadProfile}
 use Rattle.cli_answers.specs.Answers.{failed}
@@ -31,17 +31,17 @@ taking p kind = if is_none (bad_param kind p.params (length p.events)) then Some
 abbrev pub kind_of : ProfileValue → Option JobKind
 kind_of p = option_and_then (taking p) (kind_of_number p.job)
 
--- by the items of a record and its fault; a record without a header has a fault
-abbrev pub run_by : List Item → Option RecordFault → Result RunValue BadRun
-run_by (Header p ∷ xs) end =
+-- by what is read of a header, in a record of this many bytes
+abbrev pub run_by : ℕ → Read ProfileValue → Result RunValue BadRun
+run_by len (Got (p, rest)) =
     ok_or (option_map (λ kind. record { kind = kind; profile = p }) (kind_of p)) Profile
-run_by xs (Some fault) = Err (Fault fault)
-run_by xs None = Err Profile
+run_by len More = Err (Fault (record { offset = len; reason = Truncated }))
+run_by len (Bad reason left) = Err (Fault (record { offset = len - left; reason = reason }))
 
 -- The run that the header of a record names: its profile, with the job that takes it. Or why there
 -- is none: a fault before the header is whole, or no job that takes the profile.
 abbrev pub run_of : List ℕ → Result RunValue BadRun
-run_of record_bytes = run_by (items_in record_bytes) (fault_in record_bytes)
+run_of record_bytes = run_by (length record_bytes) (profile_at record_bytes)
 
 -- why a record without a whole header has no run
 abbrev pub as_bad_run : Stopped RecordFault → Stopped BadRun

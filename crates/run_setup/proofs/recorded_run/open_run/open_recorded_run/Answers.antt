@@ -1,5 +1,5 @@
 use Rattle.std.proofs.Common.{arith}
-use Rattle.run_setup.proofs.lemmas.recorded_run.Telling.{told-run, told-no-job}
+use Rattle.run_setup.proofs.lemmas.recorded_run.Telling.{told-run, told-no-job, told-fault}
 use Rattle.run_setup.proofs.recorded_run.open_run.open_recorded_run.Goals as goal
 
 pub returns-in-Ok-clause-run : goal.returns-in-Ok-clause-run
@@ -20,3 +20,8 @@ returns-in-Ok-clause-traffic g c =
       counted = omega (arith, c.in_ok-slot.ensures.counted, read.counted);
       stays = g.met.S.Slots.stays_on _ _ _ c.in_ok-slot.ensures.stays read.stays;
     })
+
+pub returns-in-Err-clause-refused : goal.returns-in-Err-clause-refused
+returns-in-Err-clause-refused g c =
+    rw c.as_bad_run.ensures
+    (told-fault (g.S.Slots.sees c.args.shelf.now) c.args.recorded.now c.in_ok-slot.ensures.opens c.in-Err.end c.in-Err.ensures.opened)
