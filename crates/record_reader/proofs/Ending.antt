@@ -35,7 +35,7 @@ use Rattle.record_reader.specs.InItems.{spelled_by}
 use Rattle.record_reader.specs.SalvageState.{Keeps, salvaging, FinishIs}
 use Rattle.record_reader.specs.Salvages.{IsFront, IsCut, Salvages, HasNothing, Begins, Answers, ReadsTo, SavesRead, Ended, settled_by}
 use Rattle.record_reader.proofs.Items.{whole_has_init}
-use Rattle.record_reader.proofs.Pieces.{kept_append}
+use Rattle.record_reader.proofs.Pieces.{spelled_append}
 use Rattle.record_reader.proofs.ItemTaker.{behind, over, told, of-slot}
 
 -- ---- the salvaged record of items
@@ -68,7 +68,7 @@ goes_on : (p : ProfileValue) (xs others : List Item) → IsProperPrefix (spelled
 goes_on p xs others = (
   flat_map (spelled_frame p.format) (flat_map kept others) ++ spelled_frame p.format Terminate,
   sym (append_assoc (spelled_kept p xs) (flat_map (spelled_frame p.format) (flat_map kept others)) (spelled_frame p.format Terminate))
-      ∙ ap (λ (bytes : List ℕ). bytes ++ spelled_frame p.format Terminate) (sym (kept_append p xs others)) ∙ sym (made_is p (xs ++ others)),
+      ∙ ap (λ (bytes : List ℕ). bytes ++ spelled_frame p.format Terminate) (sym (spelled_append kept p xs others)) ∙ sym (made_is p (xs ++ others)),
   not_none (flat_map (spelled_frame p.format) (flat_map kept others)) (spelled_frame p.format Terminate) 5 (last_one p.format),
 )
 

@@ -83,7 +83,7 @@ one_header p q xs to bytes rest h =
 -- ---- the first item, and the last place
 
 -- the first item is no frame
-first_is_header : (f : Frame) (xs : List Item) (to : Place) (bytes rest : List ℕ) → Leads places.Header bytes (items.Frame f ∷ xs) to rest
+pub first_is_header : (f : Frame) (xs : List Item) (to : Place) (bytes rest : List ℕ) → Leads places.Header bytes (items.Frame f ∷ xs) to rest
     → ⊥
 first_is_header f xs to bytes rest l = elim (can_follow places.Header bytes (items.Frame f) l.0 l.1) [ ]
 

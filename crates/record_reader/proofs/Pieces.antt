@@ -30,18 +30,18 @@ kept_is format (Init elements) = append-nil (spelled_frame format (Init elements
 kept_is format (Run r) = append-nil (spelled_frame format (Run r))
 kept_is format Terminate = refl
 
--- items after others are spelled after them
-pub kept_append : (p : ProfileValue) (xs ys : List Item) → spelled p (flat_map kept (xs ++ ys)) ≡ spelled p (flat_map kept xs)
-    ++ flat_map (spelled_frame p.format) (flat_map kept ys)
-kept_append p xs ys =
-    let one : flat_map kept (xs ++ ys) ≡ flat_map kept xs ++ flat_map kept ys = flat_map-append kept xs ys in
-    let two : flat_map (spelled_frame p.format) (flat_map kept xs ++ flat_map kept ys)
-    ≡ flat_map (spelled_frame p.format) (flat_map kept xs) ++ flat_map (spelled_frame p.format) (flat_map kept ys) =
-    flat_map-append (spelled_frame p.format) (flat_map kept xs) (flat_map kept ys) in
+-- the frames of items after others are spelled after theirs
+pub spelled_append : (frames : Item → List Frame) (p : ProfileValue) (xs ys : List Item) → spelled p (flat_map frames (xs ++ ys))
+    ≡ spelled p (flat_map frames xs) ++ flat_map (spelled_frame p.format) (flat_map frames ys)
+spelled_append frames p xs ys =
+    let one : flat_map frames (xs ++ ys) ≡ flat_map frames xs ++ flat_map frames ys = flat_map-append frames xs ys in
+    let two : flat_map (spelled_frame p.format) (flat_map frames xs ++ flat_map frames ys)
+    ≡ flat_map (spelled_frame p.format) (flat_map frames xs) ++ flat_map (spelled_frame p.format) (flat_map frames ys) =
+    flat_map-append (spelled_frame p.format) (flat_map frames xs) (flat_map frames ys) in
     ap (λ (fs : List Frame). spelled_header p ++ flat_map (spelled_frame p.format) fs) one
     ∙ ap (λ (bytes : List ℕ). spelled_header p ++ bytes) two
-    ∙ sym (append_assoc (spelled_header p) (flat_map (spelled_frame p.format) (flat_map kept xs))
-    (flat_map (spelled_frame p.format) (flat_map kept ys)))
+    ∙ sym (append_assoc (spelled_header p) (flat_map (spelled_frame p.format) (flat_map frames xs))
+    (flat_map (spelled_frame p.format) (flat_map frames ys)))
 
 -- one item more is spelled after the others
 pub spelled-next : (given : List Item) (x : Item) → NextIs given x → spelled_by kept (given ++ x ∷ []) ≡ spelled_by kept given
@@ -50,7 +50,7 @@ spelled-next [] (items.Header p) h = append-nil (spelled_header p)
 spelled-next [] (items.Frame f) h = absurd h
 spelled-next (items.Header p ∷ xs) (items.Header q) h = absurd h
 spelled-next (items.Header p ∷ xs) (items.Frame f) h =
-    kept_append p xs (items.Frame f ∷ []) ∙ ap (λ (bytes : List ℕ). spelled p (flat_map kept xs) ++ bytes) (kept_is p.format f)
+    spelled_append kept p xs (items.Frame f ∷ []) ∙ ap (λ (bytes : List ℕ). spelled p (flat_map kept xs) ++ bytes) (kept_is p.format f)
 spelled-next (items.Frame f ∷ xs) x h = absurd h
 
 pub headed-next : (given : List Item) (x : Item) → NextIs given x → IsHeaded (given ++ x ∷ [])

@@ -91,6 +91,14 @@ answered {mid = mid} h {now = now} next result p = (
   subst (λ (k : ℕ). ItemIs result next (IsAtEnd now k) (h.read ++ p.0) h.given) h.at (p.2 h.read h.given h.gave).1,
 )
 
+-- the same, by the case of the result
+pub answered-as : {E : Type 0} {taking : ItemTaker E} {first mid now : ShelfState} {slot : ℕ} {reader : ItemReader}
+    {before after : List ℕ → Type 0} (h : Running taking first mid slot reader before after) (next : ItemReader)
+    {given item : Option ItemView} → given ≡ item → HasRead mid now reader (ItemIs (Ok given) next (IsAtEnd now (slot_of reader)))
+    → Answered h now next (Ok item)
+answered-as {now = now} h next {given} is read =
+    subst (λ (o : Option ItemView). Answered h now next (Ok o)) is (answered h next (Ok given) read)
+
 -- the returned items come first among those of all bytes that begin with the ones read
 come-first : {E : Type 0} {taking : ItemTaker E} {first mid : ShelfState} {slot : ℕ} {reader : ItemReader} {before after : List ℕ → Type 0}
     (h : Running taking first mid slot reader before after) (more rest : List ℕ)

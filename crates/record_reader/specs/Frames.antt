@@ -19,6 +19,7 @@ use Rattle.record_view.specs.declared.view.ItemView.{ItemView}
 use Rattle.record_view.specs.Shows.{item_view}
 use Rattle.record_reader.specs.item_reader.StandsFor as inner
 use Rattle.record_reader.specs.item_reader.StandsFor.{FoundFault, ReadsIfNeeded}
+unfoldable pub use Rattle.record_reader.specs.item_reader.StandsFor.{RoomFell}
 use Rattle.record_reader.specs.declared.frame_reader.FrameReader.{FrameReader}
 use Rattle.record_reader.specs.declared.frame_reader.OpenRecord.{OpenRecord}
 
@@ -33,6 +34,15 @@ fault_of r = inner.fault_of r.items
 -- the slot that it reads
 abbrev pub slot_of : FrameReader → ℕ
 slot_of r = inner.slot_of r.items
+
+-- what is known if no fault was returned
+abbrev pub IfGoing : FrameReader → Type 0 → Type 0
+IfGoing r Fact = inner.IfGoing r.items Fact
+
+-- a fault that was returned is returned again, and nothing is read
+abbrev pub Repeats : {T : Type 0} → Result T (Stopped RecordFault) → FrameReader → FrameReader
+    → ShelfState → ShelfState → Type 0
+Repeats result old new before after = inner.Repeats result old.items new.items before after
 
 -- only the header of this profile was returned, and the shelf has the slot
 pub record IsOpen (frames : FrameReader) (profile : ProfileValue) (shelf : ShelfState)
@@ -79,12 +89,6 @@ abbrev pub FrameIs : Result (Option FrameView) (Stopped RecordFault) → FrameRe
 FrameIs (Ok (Some view)) r at_end read given = GaveFrame view r read given
 FrameIs (Ok None) r at_end read given = inner.ItemIs (Ok None) r.items at_end read given
 FrameIs (Err stop) r at_end read given = inner.ItemIs (Err stop) r.items at_end read given
-
--- a frame lowers the number of frames that may come, and any other result leaves it
-abbrev pub RoomFell : Result (Option FrameView) (Stopped RecordFault) → ℕ → ℕ → Type 0
-RoomFell (Ok (Some view)) old new = new < old
-RoomFell (Ok None) old new = new ≡ old
-RoomFell (Err stop) old new = new ≡ old
 
 -- ---- the header
 

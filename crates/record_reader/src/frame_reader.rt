@@ -81,7 +81,7 @@ impl FrameReader {
     ghost use Rattle.record_grammar.specs.declared.item.Item.{Item};
     ghost use Rattle.record_view.specs.Shows.{IsFrameSpelling};
     ghost use Rattle.record_reader.specs.Frames.{StandsFor, HasRead, FrameIs, RoomFell, Holds};
-    ghost use Rattle.record_reader.specs.Frames.{GaveView, fault_of, slot_of, room};
+    ghost use Rattle.record_reader.specs.Frames.{GaveView, IfGoing, Repeats, slot_of, room};
 
     /// The next frame, or None at the end of a slot with a whole record. `Refused` has the record's
     /// fault, and every later call returns it again. After a failed read the call can be repeated.
@@ -98,13 +98,9 @@ impl FrameReader {
             (FrameIs result self.new (IsAtEnd (S.sees shelf.new) (slot_of self.old))) }
         ensures held { GaveView result self.new }
         // Each frame lowers the number of frames that may come.
-        ensures room { (read : List ℕ) (given : List Item) → StandsFor self.old read given
-            → RoomFell result (room self.old) (room self.new) }
+        ensures room { IfGoing self.old (RoomFell result (room self.old) (room self.new)) }
         ensures slot { slot_of self.new ≡ slot_of self.old }
-        // Nothing is read when a fault is returned again.
-        ensures again { (fault : RecordFault) → fault_of self.old ≡ Some fault
-            → (result ≡ Err (Stopped.Refused fault)) × (fault_of self.new ≡ Some fault)
-            × (S.sees shelf.new ≡ S.sees shelf.old) }
+        ensures again { Repeats result self.old self.new (S.sees shelf.old) (S.sees shelf.new) }
         ensures traffic { ShelfTraffic (shelf_run S.sees S.stays shelf.old shelf.new)
             (failure_in result) }
     {

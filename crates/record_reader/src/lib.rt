@@ -13,4 +13,4 @@ pub use digest_sink::DigestSink;
 pub use frame_reader::{FrameReader, OpenRecord, open_record};
 pub use kind_counts::{begins_runs, runs_of};
 pub use salvage::Salvaged;
-pub use salvage_items::salvage_record;
+pub use salvage_items::{salvage_record, settle_fault};

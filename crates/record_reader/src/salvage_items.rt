@@ -78,7 +78,7 @@ fn salvage_items<S: Slots, K: Sink>(
 }
 
 /// Drops a fault that comes after Init: it doesn't stop a salvage.
-fn settle_fault(
+pub fn settle_fault(
     read: Result<(), Stopped<RecordFault>>,
     has_begun: bool,
 ) -> Result<(), Stopped<RecordFault>>

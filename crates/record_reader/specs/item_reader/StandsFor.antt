@@ -48,6 +48,16 @@ place_of r = r.place
 abbrev pub room : ItemReader → ℕ
 room r = may_come r.place
 
+-- what is known if no fault was returned
+abbrev pub IfGoing : ItemReader → Type 0 → Type 0
+IfGoing r Fact = (read : List ℕ) (given : List Item) → StandsFor r read given → Fact
+
+-- a fault that was returned is returned again, and nothing is read
+abbrev pub Repeats : {T : Type 0} → Result T (Stopped RecordFault) → ItemReader → ItemReader
+    → ShelfState → ShelfState → Type 0
+Repeats result old new before after = (f : RecordFault) → fault_of old ≡ Some f
+    → (result ≡ Err (Refused f)) × (fault_of new ≡ Some f) × (after ≡ before)
+
 -- whatever bytes come after, these are the items and this is the fault
 abbrev pub IsFaulty : RecordFault → List ℕ → List Item → Type 0
 IsFaulty f read given = (tail : List ℕ)
@@ -108,7 +118,7 @@ ItemIs (Err (Failed Write)) r at_end read given = ⊥
 ItemIs (Err (Failed OutOfMemory)) r at_end read given = Unit {0}
 
 -- an item lowers the number of items that may come, and any other result leaves it
-abbrev pub RoomFell : Result (Option ItemView) (Stopped RecordFault) → ℕ → ℕ → Type 0
+abbrev pub RoomFell : {View : Type 0} → Result (Option View) (Stopped RecordFault) → ℕ → ℕ → Type 0
 RoomFell (Ok (Some view)) old new = new < old
 RoomFell (Ok None) old new = new ≡ old
 RoomFell (Err stop) old new = new ≡ old

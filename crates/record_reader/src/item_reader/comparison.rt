@@ -39,7 +39,7 @@ impl ItemReader {
     ghost use Rattle.record_reader.specs.item_reader.Held.{held, Matched};
     ghost use Rattle.record_reader.specs.item_reader.StandsFor.{StandsFor, HasRead, fault_of};
     ghost use Rattle.record_reader.specs.item_reader.StandsFor.{slot_of, place_of};
-    ghost use Rattle.record_reader.specs.item_reader.StandsFor.{room};
+    ghost use Rattle.record_reader.specs.item_reader.StandsFor.{IfGoing, Repeats, room};
     ghost use Rattle.record_reader.specs.item_reader.Comparison.{ComparisonIs, OtherIs};
     ghost use Rattle.record_reader.specs.item_reader.Comparison.{ComparisonFell};
     ghost use Rattle.record_reader.specs.item_reader.Fronts.{Begins, Aside, Passed, Compared};
@@ -60,13 +60,9 @@ impl ItemReader {
             (ComparisonIs result view bytes.now (place_of self.old) self.new
             (IsAtEnd (S.sees shelf.new) (slot_of self.old))) }
         // Each item lowers the number of items that may come.
-        ensures room { (read : List ℕ) (given : List Item) → StandsFor self.old read given
-            → ComparisonFell result (room self.old) (room self.new) }
+        ensures room { IfGoing self.old (ComparisonFell result (room self.old) (room self.new)) }
         ensures slot { slot_of self.new ≡ slot_of self.old }
-        // Nothing is read when a fault is returned again.
-        ensures again { (fault : RecordFault) → fault_of self.old ≡ Some fault
-            → (result ≡ Err (Stopped.Refused fault)) × (fault_of self.new ≡ Some fault)
-            × (S.sees shelf.new ≡ S.sees shelf.old) }
+        ensures again { Repeats result self.old self.new (S.sees shelf.old) (S.sees shelf.new) }
         ensures traffic { ShelfTraffic (shelf_run S.sees S.stays shelf.old shelf.new)
             (failure_in result) }
     {
@@ -103,12 +99,9 @@ impl ItemReader {
         requires { slot_of self.old < (S.sees shelf.old).slots }
         ensures other { HasRead (S.sees shelf.old) (S.sees shelf.new) self.old
             (OtherIs result self.new (IsAtEnd (S.sees shelf.new) (slot_of self.old))) }
-        ensures room { (read : List ℕ) (given : List Item) → StandsFor self.old read given
-            → ComparisonFell result (room self.old) (room self.new) }
+        ensures room { IfGoing self.old (ComparisonFell result (room self.old) (room self.new)) }
         ensures slot { slot_of self.new ≡ slot_of self.old }
-        ensures again { (fault : RecordFault) → fault_of self.old ≡ Some fault
-            → (result ≡ Err (Stopped.Refused fault)) × (fault_of self.new ≡ Some fault)
-            × (S.sees shelf.new ≡ S.sees shelf.old) }
+        ensures again { Repeats result self.old self.new (S.sees shelf.old) (S.sees shelf.new) }
         ensures traffic { ShelfTraffic (shelf_run S.sees S.stays shelf.old shelf.new)
             (failure_in result) }
     {

@@ -60,7 +60,7 @@ impl ItemReader {
     ghost use Rattle.record_reader.specs.item_reader.StandsFor.{StandsFor, HasRead, ItemIs};
     ghost use Rattle.record_reader.specs.item_reader.StandsFor.{RoomFell, Holds};
     ghost use Rattle.record_reader.specs.item_reader.StandsFor.{fault_of, slot_of, place_of, room};
-    ghost use Rattle.record_reader.specs.item_reader.StandsFor.{GaveView};
+    ghost use Rattle.record_reader.specs.item_reader.StandsFor.{GaveView, IfGoing, Repeats};
     ghost use Rattle.record_reader.specs.item_reader.Steps.{Forgot, GaveAll, HeldIs, RoomOf};
     ghost use Rattle.record_reader.specs.item_reader.Steps.{KeepsOn, StepIs};
     ghost use Rattle.record_reader.specs.item_reader.Steps.{Shrinks, GoesOn, ReadsOn, FinishIs};
@@ -102,13 +102,9 @@ impl ItemReader {
         // The view is of the bytes that are held, whatever was read before.
         ensures held { GaveView result self.new }
         // Each item lowers the number of items that may come.
-        ensures room { (read : List ℕ) (given : List Item) → StandsFor self.old read given
-            → RoomFell result (room self.old) (room self.new) }
+        ensures room { IfGoing self.old (RoomFell result (room self.old) (room self.new)) }
         ensures slot { slot_of self.new ≡ slot_of self.old }
-        // Nothing is read when a fault is returned again.
-        ensures again { (fault : RecordFault) → fault_of self.old ≡ Some fault
-            → (result ≡ Err (Stopped.Refused fault)) × (fault_of self.new ≡ Some fault)
-            × (S.sees shelf.new ≡ S.sees shelf.old) }
+        ensures again { Repeats result self.old self.new (S.sees shelf.old) (S.sees shelf.new) }
         ensures traffic { ShelfTraffic (shelf_run S.sees S.stays shelf.old shelf.new)
             (failure_in result) }
     {
@@ -159,8 +155,7 @@ impl ItemReader {
         ensures step { HasRead (S.sees shelf.old) (S.sees shelf.new) self.old
             (StepIs result self.new (IsAtEnd (S.sees shelf.new) (slot_of self.old))) }
         ensures scanned { Scanned self.old → ScannedBy result self.new }
-        ensures shrinks { (read : List ℕ) (given : List Item) → StandsFor self.old read given
-            → Shrinks result (room self.old) (room self.new) }
+        ensures shrinks { IfGoing self.old (Shrinks result (room self.old) (room self.new)) }
         ensures going { GoesOn result self.old self.new }
         ensures slot { slot_of self.new ≡ slot_of self.old }
         ensures traffic { ShelfTraffic (shelf_run S.sees S.stays shelf.old shelf.new)
@@ -183,8 +178,7 @@ impl ItemReader {
         ensures item { (read : List ℕ) (given : List Item) → StandsFor self.old read given
             → HeldIs result self.new read given }
         ensures scanned { Scanned self.old → ScannedOf result self.new }
-        ensures room { (read : List ℕ) (given : List Item) → StandsFor self.old read given
-            → RoomOf result (room self.old) (room self.new) }
+        ensures room { IfGoing self.old (RoomOf result (room self.old) (room self.new)) }
         ensures keeps { KeepsOn result self.old self.new }
         ensures slot { slot_of self.new ≡ slot_of self.old }
     {

@@ -8,7 +8,7 @@ use Rattle.record_reader.specs.SalvageState.{salvaging}
 use Rattle.record_reader.specs.ItemTaker.{ItemsRead}
 use Rattle.record_reader.proofs.lemmas.item_reader.Passing.{passed-on}
 use Rattle.record_reader.proofs.ItemTaker.{lifts-same, no-read}
-use Rattle.record_reader.proofs.Views.{Answered, answered, next-given, running-next, all-taken, reader-stopped, taker-stopped}
+use Rattle.record_reader.proofs.Views.{answered, answered-as, next-given, running-next, all-taken, reader-stopped, taker-stopped}
 use Rattle.record_reader.proofs.Views.{shelf-then, same-failure, no-write, none-left}
 use Rattle.record_reader.proofs.salvage_items.salvage_items.Goals as goal
 
@@ -44,9 +44,7 @@ pub returns-in_default-clause-items : goal.returns-in_default-clause-items
 returns-in_default-clause-items g c =
     let h = c.items.invariant.running in
     all-taken h c.next.new.self
-    (subst (λ (o : Option ItemView). Answered h (g.S.Slots.sees c.next.new.shelf) c.next.new.self (Ok o))
-    (none-left c.in_ok-view.field-0 c.in_default.not-Some)
-    (answered h c.next.new.self (Ok c.in_ok-view.field-0) c.in_ok-view.ensures.item))
+    (answered-as h c.next.new.self (none-left c.in_ok-view.field-0 c.in_default.not-Some) c.in_ok-view.ensures.item)
 
 pub returns-in_default-clause-shelf_traffic : goal.returns-in_default-clause-shelf_traffic
 returns-in_default-clause-shelf_traffic g c =
@@ -58,8 +56,7 @@ bytes-requires g c = subst (λ (o : Option ItemView). GaveView (Ok o) c.next.new
 pub take-requires : goal.take-requires
 take-requires g c =
     let h = c.items.invariant.running in
-    let answer = subst (λ (o : Option ItemView). Answered h (g.S.Slots.sees c.next.new.shelf) c.next.new.self (Ok o)) c.in-Some.is
-    (answered h c.next.new.self (Ok c.in_ok-view.field-0) c.in_ok-view.ensures.item) in (
+    let answer = answered-as h c.next.new.self c.in-Some.is c.in_ok-view.ensures.item in (
       h.given,
       answer.2.item,
       h.stands,
@@ -75,8 +72,7 @@ items-smaller g c =
 pub items-preserved : goal.items-preserved
 items-preserved g c =
     let h = c.items.invariant.running in
-    let answer = subst (λ (o : Option ItemView). Answered h (g.S.Slots.sees c.next.new.shelf) c.next.new.self (Ok o)) c.in-Some.is
-    (answered h c.next.new.self (Ok c.in_ok-view.field-0) c.in_ok-view.ensures.item) in
+    let answer = answered-as h c.next.new.self c.in-Some.is c.in_ok-view.ensures.item in
     record {
       running = running-next h c.next.new.self c.in-Some.view (salvaging c.take.new.self) refl answer c.in_ok-view.ensures.slot
           (c.in_ok-take.ensures.takes h.given answer.2.item h.stands
@@ -88,8 +84,7 @@ items-preserved g c =
 pub returns-in_err-take-clause-items : goal.returns-in_err-take-clause-items
 returns-in_err-take-clause-items g c =
     let h = c.items.invariant.running in
-    let answer = subst (λ (o : Option ItemView). Answered h (g.S.Slots.sees c.next.new.shelf) c.next.new.self (Ok o)) c.in-Some.is
-    (answered h c.next.new.self (Ok c.in_ok-view.field-0) c.in_ok-view.ensures.item) in
+    let answer = answered-as h c.next.new.self c.in-Some.is c.in_ok-view.ensures.item in
     passed-on (λ (r : Result (Unit {0}) (Stopped RecordFault)). ItemsRead r (salvaging c.take.new.self)
     (shelf_run g.S.Slots.sees g.S.Slots.stays c.args.shelf.now c.next.new.shelf) (slot_of c.args.reader.now)
     (sink_run g.K.Sink.took g.K.Sink.faults c.args.sink.now c.take.new.sink))
@@ -101,8 +96,7 @@ returns-in_err-take-clause-items g c =
 pub returns-in_err-take-clause-shelf_traffic : goal.returns-in_err-take-clause-shelf_traffic
 returns-in_err-take-clause-shelf_traffic g c =
     let h = c.items.invariant.running in
-    let answer = subst (λ (o : Option ItemView). Answered h (g.S.Slots.sees c.next.new.shelf) c.next.new.self (Ok o)) c.in-Some.is
-    (answered h c.next.new.self (Ok c.in_ok-view.field-0) c.in_ok-view.ensures.item) in
+    let answer = answered-as h c.next.new.self c.in-Some.is c.in_ok-view.ensures.item in
     passed-on (λ (r : Result (Unit {0}) (Stopped RecordFault)). ShelfTraffic
     (shelf_run g.S.Slots.sees g.S.Slots.stays c.args.shelf.now c.next.new.shelf) (failure_in r))
     c.from_residual-in_err-take.result c.from_residual-in_err-take.ensures.1
