@@ -4,7 +4,7 @@ ghost use Rattle.std.specs.Prelude.{Option, Some};
 ghost use Rattle.det_io.specs.Shelf.{ShelfState};
 ghost use Rattle.det_io.specs.Traffic.{ShelfTraffic, shelf_run, failure_in};
 ghost use Rattle.record_grammar.specs.declared.item.Item.{Item};
-ghost use Rattle.record_reader.specs.item_reader.StandsFor.{StandsFor, slot_of, room};
+ghost use Rattle.record_reader.specs.item_reader.StandsFor.{IfGoing, slot_of, room};
 ghost use Rattle.copies.specs.CompareCopies.{AreDifferent, AreGiven, ReadsAmong};
 ghost use Rattle.copies.specs.Needed.{AllNeeded};
 ghost use Rattle.copies.specs.ItemRows.{IsReaderAfter, AreReadersAfter, ReadsRow, IsHeldAs};
@@ -45,8 +45,7 @@ pub fn next_of_copy<S: Slots>(
     ensures row { (first : ShelfState) (given : List Item) (slot : ℕ)
         → IsReaderAfter first (S.sees shelf.old) given slot reader.old
         → CopyNext result copy first (S.sees shelf.new) given slot reader.new }
-    ensures room { (read : List ℕ) (given : List Item) → StandsFor reader.old read given
-        → RoomFellIf result (room reader.old) (room reader.new) }
+    ensures room { IfGoing reader.old (RoomFellIf result (room reader.old) (room reader.new)) }
     ensures read { ReadsRow (S.sees shelf.old) (S.sees shelf.new) reader.old reader.new }
     ensures traffic { ShelfTraffic (shelf_run S.sees S.stays shelf.old shelf.new)
         (failure_in result) }
