@@ -6,7 +6,6 @@ ghost use Rattle.probes.specs.Shows.{seen};
 ghost use Rattle.record_text.specs.Words.{number_line};
 ghost use Rattle.record_reader.specs.item_reader.StandsFor.{StandsFor, slot_of};
 ghost use Rattle.record_reader.specs.ItemTaker.{Wrote};
-ghost use Rattle.record_reader.specs.Salvages.{settled_by};
 ghost use Rattle.cmd_records.specs.record_show.PrintedItems.{IsFailed};
 ghost use Rattle.cmd_records.specs.salvage_command.ReportEnds.{Ended};
 
@@ -15,6 +14,7 @@ use det_io::{Discard, Sink, Slots, Stopped, write_all};
 use probes::{Audience, Probe};
 use record_grammar::RecordFault;
 use record_reader::item_reader::ItemReader;
+use record_reader::settle_fault;
 use record_text::{ShowPart, put_salvaged_line};
 use std::alloc::{AllocError, Global};
 
@@ -48,19 +48,6 @@ pub(crate) fn report_salvage<S: Slots, K: Sink>(
     settle_fault(read, printer.has_begun)?;
     audience.finish(alloc)?;
     print_reports(alloc, printer.cycles, audience.reports(), sink)
-}
-
-/// Ignores a fault after Init.
-fn settle_fault(
-    read: Result<(), Stopped<RecordFault>>,
-    has_begun: bool,
-) -> Result<(), Stopped<RecordFault>>
-    ensures { result ≡ settled_by has_begun read }
-{
-    match read {
-        Err(Stopped::Refused(_)) if has_begun => Ok(()),
-        read => read,
-    }
 }
 
 /// Prints the line with the number of salvaged runs, then the reports.

@@ -1,5 +1,5 @@
 -- An item that is printed and shown.
-use Rattle.std.proofs.Common.{◌≡◌, ◌≤◌, ◌<◌, ℕ, ◌+◌, List, [], ◌∷◌, ◌++◌, length, Bool, ◌||◌, Ok, Err}
+use Rattle.std.proofs.Common.{◌≡◌, ◌<◌, ℕ, ◌+◌, List, [], ◌∷◌, ◌++◌, length, Bool, ◌||◌, Ok, Err}
 use Rattle.std.proofs.Common.{refl, sym, ap, subst, ◌∙◌, length-append, arith}
 use Rattle.det_values.specs.declared.format.Format.{Format}
 use Rattle.det_values.specs.declared.format.Format.TheVariants.{One}
@@ -12,7 +12,6 @@ use Rattle.det_io.proofs.Prefixes.{prefix-same}
 use Rattle.record_grammar.specs.declared.record_fault.RecordFault.{RecordFault}
 use Rattle.record_grammar.specs.declared.item.Item.{Item}
 use Rattle.record_grammar.specs.declared.item.Item.TheVariants as items
-use Rattle.det_values.specs.declared.frames.Frame.TheVariants.{Register, Discover, Init, Run, Terminate}
 use Rattle.record_grammar.specs.declared.place.Place.TheVariants as places
 use Rattle.record_grammar.specs.Places.{format_of}
 use Rattle.record_grammar.proofs.Leads.{can_follow}
@@ -21,9 +20,9 @@ use Rattle.record_view.specs.Shows.{IsSpelling}
 use Rattle.record_reader.specs.Kinds.{runs_of}
 use Rattle.record_reader.specs.Salvaged.{is_init}
 use Rattle.record_reader.specs.ItemTaker.{AreFirst, IsNext, Takes, Wrote}
-use Rattle.record_reader.proofs.Items.{next_is, few_first}
+use Rattle.record_reader.proofs.Items.{next_is}
 use Rattle.record_reader.proofs.Kept.{Adds, adds}
-use Rattle.record_reader.proofs.Pieces.{headed-next as starts-headed, begun-next}
+use Rattle.record_reader.proofs.Pieces.{headed-next as starts-headed, begun-next, cycles-room}
 use Rattle.record_text.specs.declared.show_part.ShowPart.{ShowPart}
 use Rattle.record_text.specs.declared.show_part.ShowPart.TheVariants.{All, Reports, Cycle}
 use Rattle.probes.specs.Reports.{AudienceState}
@@ -59,26 +58,12 @@ kept-then All first mid now p q = tt
 kept-then Reports first mid now p q = tt
 kept-then (Cycle number) first mid now p q = q ∙ p
 
-runs_few : (x : Item) → length (run_in x) ≤ 1
-runs_few (items.Header p) = omega arith
-runs_few (items.Frame Register) = omega arith
-runs_few (items.Frame Discover) = omega arith
-runs_few (items.Frame (Init elements)) = omega arith
-runs_few (items.Frame (Run run)) = omega arith
-runs_few (items.Frame Terminate) = omega arith
-
--- there are no more runs than items
-fewer_runs : (xs : List Item) → length (runs_in xs) ≤ length xs
-fewer_runs [] = omega arith
-fewer_runs (x ∷ xs) = let all = length-append (run_in x) (runs_in xs) in let one = runs_few x in let others = fewer_runs xs in
-    omega (arith, all, one, others)
-
 -- there is room to count one more
 pub shown-room : {part : ShowPart} (printer : Printer) (first now : AudienceState) (given : List Item) (item : Item)
     → AreShown part first now printer given → AreFirst (given ++ item ∷ []) → printer.cycles < 4294967295
 shown-room printer first now given item h are_first =
-    let few = few_first (given ++ item ∷ []) are_first in let all = length-append given (item ∷ []) in let runs = fewer_runs given in
-    let cycles = h.cycles in omega (arith, few, all, runs, cycles)
+    let room : length (runs_in given) < 4294967295 = cycles-room given item are_first in let cycles = h.cycles in
+    omega (arith, room, cycles)
 
 -- ---- an item by its view
 

@@ -1,6 +1,6 @@
 use Rattle.std.proofs.Common.{◌≡◌, ◌∙◌, ℕ, refl, List, [], Option, Some, None, Result, Ok, Err, subst, rules}
 use Rattle.det_io.specs.declared.failure.Stopped.{Stopped}
-use Rattle.det_io.specs.Shelf.{ShelfState, IsAtEnd}
+use Rattle.det_io.specs.Shelf.{ShelfState}
 use Rattle.det_io.specs.Traffic.{SinkRun, SinkTraffic, ShelfTraffic, shelf_run, sink_run, failure_in}
 use Rattle.probes.specs.Reports.{AudienceState}
 use Rattle.probes.specs.Shows.{seen}
@@ -9,11 +9,11 @@ use Rattle.record_grammar.specs.declared.record_fault.RecordFault.{RecordFault}
 use Rattle.record_view.specs.declared.view.ItemView.{ItemView}
 use Rattle.record_view.specs.Shows.{IsSpelling}
 use Rattle.record_reader.specs.declared.item_reader.reader.ItemReader.{ItemReader}
-use Rattle.record_reader.specs.item_reader.StandsFor.{GaveView, HasRead, Holds, ItemIs, RoomFell, slot_of, room}
-use Rattle.record_reader.specs.ItemTaker.{IsNext, ItemTaker, Takes, ItemsRead}
+use Rattle.record_reader.specs.item_reader.StandsFor.{GaveView, Holds, RoomFell, slot_of, room}
+use Rattle.record_reader.specs.ItemTaker.{IsNext, Takes, ItemsRead}
 use Rattle.record_reader.proofs.lemmas.item_reader.Passing.{passed-on}
 use Rattle.record_reader.proofs.ItemTaker.{lifts-same, no-read}
-use Rattle.record_reader.proofs.Views.{Running, Answered, answered, running-new, next-first, next-given, running-next, all-taken, reader-stopped}
+use Rattle.record_reader.proofs.Views.{Running, Answered, answered, answered-as, running-new, next-first, next-given, running-next, all-taken, reader-stopped}
 use Rattle.record_reader.proofs.Views.{taker-stopped, no-write, none-left}
 use Rattle.record_text.specs.declared.show_part.ShowPart.{ShowPart}
 use Rattle.cmd_records.specs.declared.record_show.printer.Printer.{Printer}
@@ -21,14 +21,6 @@ use Rattle.cmd_records.specs.record_show.PrintedItems.{AreShown, Kept, showing}
 use Rattle.cmd_records.proofs.lemmas.record_show.Parts.{none-yet}
 use Rattle.cmd_records.proofs.lemmas.record_show.Taken.{kept-same, kept-then, shown-room}
 use Rattle.cmd_records.proofs.record_show.show_items.show_items.Goals as goal
-
--- what the reader gave, by its case
-answered-as : {taking : ItemTaker RecordFault} {first mid now : ShelfState} {slot : ℕ} {reader : ItemReader} {before after : List ℕ
-    → Type 0}
-    (h : Running taking first mid slot reader before after) (next : ItemReader) {given item : Option ItemView} → given ≡ item
-    → HasRead mid now reader (ItemIs (Ok given) next (IsAtEnd now (slot_of reader))) → Answered h now next (Ok item)
-answered-as {now = now} h next {given} is read = subst (λ (o : Option ItemView). Answered h now next (Ok o)) is (answered h next (Ok given)
-    read)
 
 -- what the printer took of it
 takes-next : {part : ShowPart} {first now last : AudienceState} {old new : Printer} {start mid state : ShelfState} {slot : ℕ}
