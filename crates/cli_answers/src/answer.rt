@@ -1,13 +1,15 @@
 //! `Answer`, how a command ended, with its status and its line on standard error.
 ghost use Rattle.std.specs.Prelude.{◌≡◌, ◌+◌, ◌≤◌, ◌++◌, length, codes, decimal};
+ghost use Rattle.det_io.specs.Traffic.{sink_run};
 ghost use Rattle.manifest.specs.KeyTexts.{key_text};
 ghost use Rattle.cli_answers.specs.Answers.{status_of, reason_word, ended, err_line};
 ghost use Rattle.cli_answers.specs.Answers.{table_text, unknown_text};
 ghost use Rattle.cli_answers.specs.Answers.{bad_manifest_text, bad_record_text};
+ghost use Rattle.cli_answers.specs.Outcome.{WritesLine};
 
-use crate::line::AnswerLine;
+use crate::line::{AnswerLine, write_line};
 use crate::status::Status;
-use det_io::{Failure, Stopped};
+use det_io::{Failure, Sink, Stopped};
 use manifest::{Key, KeyTable, ManifestFault, UnknownKey};
 use record_grammar::{Reason, RecordFault};
 
@@ -232,4 +234,16 @@ impl Answer {
             Answer::NoMajority { row } => number_answer_line("no majority: row ", row as u64),
         }
     }
+}
+
+/// Ends a program whose memory ran out before its command began: writes the line and returns the
+/// status. All three programs end so.
+pub fn report_out_of_memory<E: Sink>(err: &mut E) -> Status
+    ensures line { WritesLine (err_line Answer.OutOfMemory)
+        (sink_run E.took E.faults err.old err.new) }
+    ensures status { result ≡ status_of Answer.OutOfMemory }
+{
+    let answer = Answer::OutOfMemory;
+    write_line(&answer.line(), err);
+    answer.status()
 }

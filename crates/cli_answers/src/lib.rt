@@ -7,6 +7,6 @@ mod answer;
 mod line;
 mod status;
 
-pub use answer::{Answer, BadManifest};
+pub use answer::{Answer, BadManifest, report_out_of_memory};
 pub use line::{AnswerLine, write_line};
 pub use status::Status;

@@ -4,7 +4,8 @@ use det_cli::{Answer, Status};
 use det_io::{DirShelf, Sink, write_all};
 use hints_on_files::command_hint;
 use hints_on_words::{
-    can_reread, help_for, read_failure, words_fault, write_failure, write_hint, write_words_hint,
+    can_reread, help_for, words_fault, write_hint, write_input_hint, write_output_hint,
+    write_words_hint,
 };
 use std::alloc::Global;
 use std::io::Error;
@@ -34,9 +35,7 @@ fn hint_on_read<E: Sink>(
     let Some(command) = read_words(words) else {
         return;
     };
-    if let Some(unread) = read_failure(alloc, command.names.as_slice(), failed) {
-        write_hint(alloc, unread, err);
-    }
+    write_input_hint(alloc, command.names.as_slice(), failed, err);
 }
 
 /// Writes the hint on a file that was refused.
@@ -70,11 +69,7 @@ pub(crate) fn write_hints<E: Sink>(
     match status {
         Status::BadWords => hint_on_words(rt, words, err),
         Status::ReadFault => hint_on_read(alloc, words, unread, err),
-        Status::WriteFault => {
-            if let Some(reason) = write_failure(alloc, failed) {
-                write_hint(alloc, reason, err);
-            }
-        }
+        Status::WriteFault => write_output_hint(alloc, failed, err),
         Status::BadManifest | Status::BadStimulus | Status::BadRecord => {
             hint_on_file(rt, words, status, err);
         }

@@ -5,9 +5,9 @@
 mod det_hints;
 mod terminal;
 
-use cli_answers::write_line;
+use cli_answers::report_out_of_memory;
 use cli_words::program_words;
-use det_cli::{Answer, Host, Status, top};
+use det_cli::{Host, Status, top};
 use det_hints::{refuse_terminal, write_hints};
 use det_io::{DirShelf, Shelf, Sink, StdSink};
 use probes::{Audience, CountProbe, FirstRefusalProbe, GapProbe, Probe};
@@ -42,17 +42,11 @@ fn run_with_probes<R: Threads, S: Shelf, K: Sink, E: Sink>(
     Ok(top(host, words, shelf, out, err, &mut audience))
 }
 
-/// Reports that memory ran out before the program began, as `top` does.
-fn report_out_of_memory<E: Sink>(err: &mut E) -> ExitCode {
-    write_line(&Answer::OutOfMemory.line(), err);
-    ExitCode::from(Status::OutOfMemory.number())
-}
-
 fn main(rt: HostRuntime) -> ExitCode {
     let alloc = rt.alloc();
     let mut err = StdSink::new(rt.stderr());
     let (Ok(mut words), Ok(gate)) = (program_words(&rt), nap_gate(&rt)) else {
-        return report_out_of_memory(&mut err);
+        return ExitCode::from(report_out_of_memory(&mut err).number());
     };
     if is_forced(&words) {
         words.pop();
@@ -61,7 +55,7 @@ fn main(rt: HostRuntime) -> ExitCode {
         return ExitCode::from(status.number());
     }
     let Ok(gate) = Arc::new(alloc, AnyGate::new(gate)) else {
-        return report_out_of_memory(&mut err);
+        return ExitCode::from(report_out_of_memory(&mut err).number());
     };
     let host = Host {
         rt: &rt,
@@ -71,7 +65,7 @@ fn main(rt: HostRuntime) -> ExitCode {
     let mut shelf = DirShelf::new(&rt, alloc);
     let mut out = StdSink::new(rt.stdout());
     let Ok(status) = run_with_probes(&host, &words, &mut shelf, &mut out, &mut err) else {
-        return report_out_of_memory(&mut err);
+        return ExitCode::from(report_out_of_memory(&mut err).number());
     };
     if err.failed().is_none() {
         write_hints(&rt, &words, status, shelf.failed(), out.failed(), &mut err);

@@ -1,8 +1,6 @@
 //! Hints of `det_lane`, written after the answer's line.
 use det_io::Sink;
-use hints_on_words::{
-    Help, WordsFault, misplaced_word, write_failure, write_hint, write_words_hint,
-};
+use hints_on_words::{Help, WordsFault, misplaced_word, write_output_hint, write_words_hint};
 use lane::LaneStatus;
 use std::io::Error;
 
@@ -38,11 +36,7 @@ pub(crate) fn write_hints<E: Sink>(
 ) {
     match status {
         LaneStatus::BadWords => hint_on_words(rt, words, err),
-        LaneStatus::WriteFault => {
-            if let Some(reason) = write_failure(rt.alloc(), failed) {
-                write_hint(rt.alloc(), reason, err);
-            }
-        }
+        LaneStatus::WriteFault => write_output_hint(rt.alloc(), failed, err),
         _ => {}
     }
 }

@@ -4,25 +4,19 @@
 
 mod lane_hints;
 
-use cli_answers::write_line;
+use cli_answers::report_out_of_memory;
 use cli_words::program_words;
-use det_io::{Sink, StdSink};
+use det_io::StdSink;
 use lane::child_processes::{ChildShelf, ProcessSpawner};
-use lane::{LaneAnswer, LaneStatus, lane_top};
+use lane::lane_top;
 use lane_hints::write_hints;
 use std::process::ExitCode;
-
-/// Reports that memory ran out before the program began, as `lane_top` does.
-fn report_out_of_memory<E: Sink>(err: &mut E) -> ExitCode {
-    write_line(&LaneAnswer::OutOfMemory.line(), err);
-    ExitCode::from(LaneStatus::OutOfMemory.number())
-}
 
 fn main(rt: HostRuntime) -> ExitCode {
     let alloc = rt.alloc();
     let mut err = StdSink::new(rt.stderr());
     let Ok(words) = program_words(&rt) else {
-        return report_out_of_memory(&mut err);
+        return ExitCode::from(report_out_of_memory(&mut err).number());
     };
     let mut children = ChildShelf {
         spawner: ProcessSpawner::new(&rt, alloc),

@@ -5,24 +5,18 @@
 mod twin_hints;
 mod twins_fault;
 
-use cli_answers::write_line;
+use cli_answers::report_out_of_memory;
 use cli_words::program_words;
-use det_io::{DirShelf, Sink, StdSink};
+use det_io::{DirShelf, StdSink};
 use std::process::ExitCode;
-use twin_cli::{TwinAnswer, TwinStatus, twin_top};
+use twin_cli::twin_top;
 use twin_hints::write_hints;
-
-/// Reports that memory ran out before the program began, as `twin_top` does.
-fn report_out_of_memory<E: Sink>(err: &mut E) -> ExitCode {
-    write_line(&TwinAnswer::OutOfMemory.line(), err);
-    ExitCode::from(TwinStatus::OutOfMemory.number())
-}
 
 fn main(rt: HostRuntime) -> ExitCode {
     let alloc = rt.alloc();
     let mut err = StdSink::new(rt.stderr());
     let Ok(words) = program_words(&rt) else {
-        return report_out_of_memory(&mut err);
+        return ExitCode::from(report_out_of_memory(&mut err).number());
     };
     let mut shelf = DirShelf::new(&rt, alloc);
     let mut out = StdSink::new(rt.stdout());

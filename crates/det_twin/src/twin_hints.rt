@@ -2,7 +2,9 @@
 use crate::twins_fault::words_fault;
 use det_io::{DirShelf, Shelf, Sink};
 use hints_on_files::{Hint, manifest_events, manifest_hint, stimulus_hint};
-use hints_on_words::{Help, can_reread, read_failure, write_failure, write_hint, write_words_hint};
+use hints_on_words::{
+    Help, can_reread, write_hint, write_input_hint, write_output_hint, write_words_hint,
+};
 use std::alloc::Global;
 use std::io::Error;
 use twin_cli::{TwinCommand, TwinStatus, Twins};
@@ -46,9 +48,7 @@ fn hint_on_twins<E: Sink>(
     let alloc = rt.alloc();
     let names = [twins.manifest, twins.stimulus];
     if let TwinStatus::ReadFault = status {
-        if let Some(unread) = read_failure(alloc, &names, unread) {
-            write_hint(alloc, unread, err);
-        }
+        write_input_hint(alloc, &names, unread, err);
         return;
     }
     if !can_reread(rt, &names) {
@@ -74,11 +74,7 @@ pub(crate) fn write_hints<E: Sink>(
 ) {
     match status {
         TwinStatus::BadWords => hint_on_words(rt, words, err),
-        TwinStatus::WriteFault => {
-            if let Some(reason) = write_failure(rt.alloc(), failed) {
-                write_hint(rt.alloc(), reason, err);
-            }
-        }
+        TwinStatus::WriteFault => write_output_hint(rt.alloc(), failed, err),
         TwinStatus::BadManifest | TwinStatus::BadStimulus | TwinStatus::ReadFault => {
             if let Some(TwinCommand::Run(twins)) = TwinCommand::from_words(words) {
                 hint_on_twins(rt, &twins, status, unread, err);

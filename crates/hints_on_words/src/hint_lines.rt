@@ -1,15 +1,19 @@
 //! Writes hints, and those on arguments that a program refused.
-ghost use Rattle.std.specs.Prelude.{◌≤◌, ℕ, List, take, Some, IfSome, IsUtf8};
+ghost use Rattle.std.specs.Prelude.{◌≡◌, ◌≤◌, ℕ, List, take, Some, IsNone, IfSome, IsUtf8};
+ghost use Rattle.std.specs.IoError.{error_kind};
+ghost use Rattle.std.specs.declared.io.ErrorKind.TheVariants.{BrokenPipe};
 ghost use Rattle.det_io.specs.Sink.{GrewByPrefix};
 ghost use Rattle.hints_on_words.specs.Texts.{help_text, hint_line};
 
 use crate::excerpt::Excerpt;
+use crate::system::{read_failure, write_failure};
 use crate::word_faults::WordsFault;
 use det_io::{Sink, write_all};
 use std::alloc::Global;
 use std::env::{Env, FillError};
 use std::fmt;
 use std::fmt::{Display, Formatter, Write};
+use std::io::Error;
 
 /// The greatest length of an argument that is examined, in bytes.
 const ROOM: usize = 4096;
@@ -54,6 +58,32 @@ fn write_hint_text<K: Sink>(alloc: Global, text: &str, err: &mut K) -> bool
     match format!(in alloc; "  {text}\n") {
         Ok(line) => write_all(err, line.as_bytes()).is_ok(),
         Err(_) => false,
+    }
+}
+
+/// Writes which of the names couldn't be opened or read, and why, if memory lasts for that. `failed`
+/// is the slot that failed, with its error.
+pub fn write_input_hint<K: Sink>(
+    alloc: Global,
+    names: &[&str],
+    failed: Option<(u32, Error)>,
+    err: &mut K,
+)
+    ensures { IsNone failed → err.new ≡ err.old }
+{
+    if let Some(reason) = read_failure(alloc, names, failed) {
+        write_hint(alloc, reason, err);
+    }
+}
+
+/// Writes why standard output failed, if memory lasts for that. A broken pipe is no fault of the
+/// output.
+pub fn write_output_hint<K: Sink>(alloc: Global, failed: Option<Error>, err: &mut K)
+    ensures none { IsNone failed → err.new ≡ err.old }
+    ensures pipe { IfSome failed (λ error. error_kind error ≡ BrokenPipe → err.new ≡ err.old) }
+{
+    if let Some(reason) = write_failure(alloc, failed) {
+        write_hint(alloc, reason, err);
     }
 }
 

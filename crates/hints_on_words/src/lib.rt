@@ -12,6 +12,6 @@ mod word_faults;
 
 pub use command_words::{help_for, words_fault};
 pub use excerpt::Excerpt;
-pub use hint_lines::{Help, write_hint, write_words_hint};
-pub use system::{can_reread, read_failure, write_failure};
+pub use hint_lines::{Help, write_hint, write_input_hint, write_output_hint, write_words_hint};
+pub use system::can_reread;
 pub use word_faults::{WordsFault, misplaced_word};

@@ -25,7 +25,11 @@ fn system_reason(alloc: Global, error: Error) -> Option<String> {
 
 /// The name whose slot failed last, with the system's reason. `names` are in the order in which the
 /// shelf opened them. None if no name has that slot, or memory runs out.
-pub fn read_failure(alloc: Global, names: &[&str], failed: Option<(u32, Error)>) -> Option<String>
+pub(crate) fn read_failure(
+    alloc: Global,
+    names: &[&str],
+    failed: Option<(u32, Error)>,
+) -> Option<String>
     ensures { IsNone failed → IsNone result }
 {
     let (slot, error) = failed?;
@@ -36,7 +40,7 @@ pub fn read_failure(alloc: Global, names: &[&str], failed: Option<(u32, Error)>)
 
 /// Why a write failed. None if memory runs out, or for a broken pipe: the reader closed it, which
 /// is no fault of the output.
-pub fn write_failure(alloc: Global, failed: Option<Error>) -> Option<String>
+pub(crate) fn write_failure(alloc: Global, failed: Option<Error>) -> Option<String>
     ensures none { IsNone failed → IsNone result }
     ensures pipe { IfSome failed (λ error. error_kind error ≡ BrokenPipe → IsNone result) }
 {
