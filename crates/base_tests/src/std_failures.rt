@@ -34,29 +34,51 @@ fn a_write_that_takes_nothing_is_a_fault(rt: HostRuntime) -> Result<(), Fail> {
 /// The most tries of one call.
 const MOST_TRIES: u32 = 1000;
 
-/// A reader and writer that is interrupted a number of times, and then moves one byte.
-#[derive(Drop)]
-struct Interrupted {
-    times: u32,
+/// How the calls of a reader or writer end.
+#[derive(Clone, Copy, Drop)]
+enum Turns {
+    /// So many calls are interrupted. Each later one moves a byte.
+    Interrupted { times: u32 },
+    /// The first call moves a byte, the second fails, and each later one moves nothing.
+    Broken,
 }
 
-impl Interrupted {
+/// A reader and writer whose calls end by turns.
+#[derive(Drop)]
+struct Faulty {
+    turns: Turns,
+    calls: u32,
+}
+
+impl Faulty {
+    fn new(turns: Turns) -> Faulty {
+        Faulty { turns, calls: 0 }
+    }
+
+    /// How many bytes the next call moves.
     fn turn(&mut self) -> io::Result<usize> {
-        if self.times == 0 {
-            return Ok(1);
+        self.calls = self.calls.saturating_add(1);
+        match self.turns {
+            Turns::Interrupted { times } if self.calls <= times => {
+                Err(io::Error::from(ErrorKind::Interrupted))
+            }
+            Turns::Interrupted { .. } => Ok(1),
+            Turns::Broken => match self.calls {
+                1 => Ok(1),
+                2 => Err(io::Error::from(ErrorKind::Other)),
+                _ => Ok(0),
+            },
         }
-        self.times -= 1;
-        Err(io::Error::from(ErrorKind::Interrupted))
     }
 }
 
-impl Read for Interrupted {
+impl Read for Faulty {
     fn read(&mut self, buf: &mut [u8]) -> io::Result<usize> {
         Ok(self.turn()?.min(buf.len()))
     }
 }
 
-impl Write for Interrupted {
+impl Write for Faulty {
     fn write(&mut self, piece: &[u8]) -> io::Result<usize> {
         Ok(self.turn()?.min(piece.len()))
     }
@@ -68,10 +90,10 @@ impl Write for Interrupted {
 
 #[test]
 fn an_interrupted_write_is_tried_again(rt: HostRuntime) -> Result<(), Fail> {
-    let mut sink = StdSink::new(Interrupted { times: 2 });
+    let mut sink = StdSink::new(Faulty::new(Turns::Interrupted { times: 2 }));
     assert_eq!(rt; sink.write(b"ab"), Ok(1));
     assert_eq!(rt; write_all(&mut sink, b"cde"), Ok(()), "a byte a call");
-    let mut sink = StdSink::new(Interrupted { times: MOST_TRIES });
+    let mut sink = StdSink::new(Faulty::new(Turns::Interrupted { times: MOST_TRIES }));
     let answers = [sink.write(b"ab"), sink.write(b"ab")];
     assert_eq!(rt;
         answers,
@@ -84,9 +106,9 @@ fn an_interrupted_write_is_tried_again(rt: HostRuntime) -> Result<(), Fail> {
 #[test]
 fn an_interrupted_read_is_tried_again(rt: HostRuntime) -> Result<(), Fail> {
     let mut buf = [0; 2];
-    let mut reader = Interrupted { times: 2 };
+    let mut reader = Faulty::new(Turns::Interrupted { times: 2 });
     assert_eq!(rt; read_with_retries(&mut reader, &mut buf)?, 1);
-    let mut reader = Interrupted { times: MOST_TRIES };
+    let mut reader = Faulty::new(Turns::Interrupted { times: MOST_TRIES });
     assert_eq!(rt;
         read_with_retries(&mut reader, &mut buf)
             .err()
@@ -98,33 +120,10 @@ fn an_interrupted_read_is_tried_again(rt: HostRuntime) -> Result<(), Fail> {
     Ok(())
 }
 
-/// A reader and writer that moves a byte, fails once, and then moves nothing.
-#[derive(Drop)]
-struct Broken {
-    calls: u32,
-}
-
-impl Broken {
-    fn turn(&mut self) -> io::Result<usize> {
-        self.calls = self.calls.saturating_add(1);
-        match self.calls {
-            1 => Ok(1),
-            2 => Err(io::Error::from(ErrorKind::Other)),
-            _ => Ok(0),
-        }
-    }
-}
-
-impl Read for Broken {
-    fn read(&mut self, buf: &mut [u8]) -> io::Result<usize> {
-        Ok(self.turn()?.min(buf.len()))
-    }
-}
-
 #[test]
 fn a_failing_read_is_no_end(rt: HostRuntime) -> Result<(), Fail> {
     let mut buf = [0; 2];
-    let mut reader = Broken { calls: 0 };
+    let mut reader = Faulty::new(Turns::Broken);
     assert_eq!(rt; read_with_retries(&mut reader, &mut buf)?, 1);
     let failed = read_with_retries(&mut reader, &mut buf).err();
     assert_eq!(rt; failed.map(|error| error.kind()), Some(ErrorKind::Other));
@@ -132,19 +131,9 @@ fn a_failing_read_is_no_end(rt: HostRuntime) -> Result<(), Fail> {
     Ok(())
 }
 
-impl Write for Broken {
-    fn write(&mut self, piece: &[u8]) -> io::Result<usize> {
-        Ok(self.turn()?.min(piece.len()))
-    }
-
-    fn flush(&mut self) -> io::Result<()> {
-        Ok(())
-    }
-}
-
 #[test]
 fn a_failing_write_is_told(rt: HostRuntime) -> Result<(), Fail> {
-    let mut sink = StdSink::new(Broken { calls: 0 });
+    let mut sink = StdSink::new(Faulty::new(Turns::Broken));
     assert_eq!(rt; write_all(&mut sink, b"ab"), Err(SinkFailed));
     let failed = sink.failed().map(|error| error.kind());
     assert_eq!(rt; failed, Some(ErrorKind::Other));

@@ -34,12 +34,14 @@ const SMALL: Edges = Edges {
     ..NO_FAILURES
 };
 
-/// What fails or is small in the runs of a command.
+/// What fails or is small in the runs of a line.
 #[derive(Clone, Copy)]
 enum Trial {
     Reads,
     Writes,
     Pieces,
+    /// The line for the user, in the broken runs.
+    LineFails,
 }
 
 impl RunResult {
@@ -94,32 +96,20 @@ fn breaks_at_read<R: Threads + Sync>(
     Ok(breaks == is_to_break && breaks != ran.is_as(whole))
 }
 
-/// The same for each of these reads, and for the number after them, which fails nothing.
+/// The same for each of its reads, and for the number after them, which fails nothing.
 fn breaks_at_each_read<R: Threads + Sync>(
     rt: &R,
     alloc: Global,
     line: &str,
     whole: &RunResult,
-    reads: u64,
 ) -> Result<bool, AllocError> {
+    let reads = calls_of(alloc, line)?;
     let mut is_right = whole.status == 0;
     for read in 1..reads.saturating_add(2) {
         let breaks = breaks_at_read(rt, alloc, line, whole, read, read <= reads)?;
         is_right = is_right && breaks;
     }
     Ok(is_right)
-}
-
-/// Whether a run with one failing read breaks off for each of its reads, and not for the number
-/// after them.
-fn breaks_at_reads<R: Threads + Sync>(
-    rt: &R,
-    alloc: Global,
-    line: &str,
-) -> Result<bool, AllocError> {
-    let reads = calls_of(alloc, line)?;
-    let whole = run(rt, alloc, line, SMALL)?;
-    breaks_at_each_read(rt, alloc, line, &whole, reads)
 }
 
 /// Whether this number of writes can have taken the bytes, 1 to 10 each.
@@ -147,7 +137,8 @@ fn breaks_after<R: Threads + Sync>(
     Ok((breaks && fits, ran.is_as(whole) && fits))
 }
 
-/// Whether runs break off at each write until one is the whole run.
+/// Whether runs break off after the writes before a failing one, at each write until one is the
+/// whole run.
 fn breaks_at_each_write<R: Threads + Sync>(
     rt: &R,
     alloc: Global,
@@ -161,17 +152,6 @@ fn breaks_at_each_write<R: Threads + Sync>(
         }
     }
     Ok(false)
-}
-
-/// Whether a run with one failing write breaks off after the writes before it. That is so for each
-/// of its writes, and not for the number after them.
-fn breaks_at_writes<R: Threads + Sync>(
-    rt: &R,
-    alloc: Global,
-    line: &str,
-) -> Result<bool, AllocError> {
-    let whole = run(rt, alloc, line, SMALL)?;
-    breaks_at_each_write(rt, alloc, line, &whole)
 }
 
 /// Whether a run is the whole one if a read gives at most this number of bytes and a write takes
@@ -207,14 +187,48 @@ fn is_same_at_each<R: Threads + Sync>(
     Ok(is_right)
 }
 
-/// Whether a run is the same in pieces of few bytes.
-fn is_same_in_pieces<R: Threads + Sync>(
+/// The line for the user fails at its first write.
+const LINE_FAILS: Edges = Edges {
+    failing_line: 1,
+    ..NO_FAILURES
+};
+
+/// The line for the user fails at its second write, after three bytes.
+const LINE_FAILS_LATER: Edges = Edges {
+    failing_line: 2,
+    most_written: 3,
+    ..NO_FAILURES
+};
+
+/// Whether a run of a row keeps its status over these edges, and writes the first `len` bytes of
+/// its line.
+fn keeps_status_over<R: Threads + Sync>(
     rt: &R,
     alloc: Global,
-    line: &str,
+    row: &str,
+    edges: Edges,
+    len: usize,
 ) -> Result<bool, AllocError> {
-    let whole = run(rt, alloc, line, SMALL)?;
-    is_same_at_each(rt, alloc, line, &whole)
+    let (words, wanted) = row_of(row);
+    let ran = run(rt, alloc, words, edges)?;
+    let printed = ran.err.bytes();
+    let is_front = printed.len() == len && wanted.err.as_bytes().starts_with(printed);
+    Ok(is_front && ran.status == wanted.status)
+}
+
+/// Whether a run of a row keeps its status if the line for the user fails.
+fn keeps_status<R: Threads + Sync>(rt: &R, alloc: Global, row: &str) -> Result<bool, AllocError> {
+    let at_start = keeps_status_over(rt, alloc, row, LINE_FAILS, 0)?;
+    let half_way = keeps_status_over(rt, alloc, row, LINE_FAILS_LATER, 3)?;
+    Ok(at_start && half_way)
+}
+
+/// The lines of the runs of a trial.
+fn lines_of(trial: Trial) -> &'static str {
+    match trial {
+        Trial::Reads | Trial::Writes | Trial::Pieces => commands(),
+        Trial::LineFails => broken_rows(),
+    }
 }
 
 fn passes<R: Threads + Sync>(
@@ -224,16 +238,17 @@ fn passes<R: Threads + Sync>(
     line: &str,
 ) -> Result<bool, AllocError> {
     match trial {
-        Trial::Reads => breaks_at_reads(rt, alloc, line),
-        Trial::Writes => breaks_at_writes(rt, alloc, line),
-        Trial::Pieces => is_same_in_pieces(rt, alloc, line),
+        Trial::Reads => breaks_at_each_read(rt, alloc, line, &run(rt, alloc, line, SMALL)?),
+        Trial::Writes => breaks_at_each_write(rt, alloc, line, &run(rt, alloc, line, SMALL)?),
+        Trial::Pieces => is_same_at_each(rt, alloc, line, &run(rt, alloc, line, SMALL)?),
+        Trial::LineFails => keeps_status(rt, alloc, line),
     }
 }
 
-/// The commands that don't pass a trial.
+/// The lines whose runs don't pass a trial.
 fn failures<R: Threads + Sync>(rt: &R, alloc: Global, trial: Trial) -> Result<String, AllocError> {
     let mut failures = String::new(alloc);
-    for line in commands().lines() {
+    for line in lines_of(trial).lines() {
         if !passes(rt, alloc, trial, line)? {
             failures.push_str(line)?;
         }
@@ -274,56 +289,9 @@ fn an_output_without_room_is_a_write_fault(rt: HostRuntime) -> Result<(), Fail> 
     Ok(())
 }
 
-/// The line for the user fails at its first write.
-const LINE_FAILS: Edges = Edges {
-    failing_line: 1,
-    ..NO_FAILURES
-};
-
-/// The line for the user fails at its second write, after three bytes.
-const LINE_FAILS_LATER: Edges = Edges {
-    failing_line: 2,
-    most_written: 3,
-    ..NO_FAILURES
-};
-
-/// Whether a run of a row keeps its status over these edges, and writes the first `len` bytes of
-/// its line.
-fn keeps_status_over<R: Threads + Sync>(
-    rt: &R,
-    alloc: Global,
-    row: &str,
-    edges: Edges,
-    len: usize,
-) -> Result<bool, AllocError> {
-    let (words, wanted) = row_of(row);
-    let ran = run(rt, alloc, words, edges)?;
-    let printed = ran.err.bytes();
-    let is_front = printed.len() == len && wanted.err.as_bytes().starts_with(printed);
-    Ok(is_front && ran.status == wanted.status)
-}
-
-/// Whether a run of a row keeps its status if the line for the user fails.
-fn keeps_status<R: Threads + Sync>(rt: &R, alloc: Global, row: &str) -> Result<bool, AllocError> {
-    let at_start = keeps_status_over(rt, alloc, row, LINE_FAILS, 0)?;
-    let half_way = keeps_status_over(rt, alloc, row, LINE_FAILS_LATER, 3)?;
-    Ok(at_start && half_way)
-}
-
-/// The rows of the broken runs that end otherwise if the line for the user fails.
-fn changed_by_lines<R: Threads + Sync>(rt: &R, alloc: Global) -> Result<String, AllocError> {
-    let mut changed = String::new(alloc);
-    for row in broken_rows().lines() {
-        if !keeps_status(rt, alloc, row)? {
-            changed.push_str(row)?;
-        }
-    }
-    Ok(changed)
-}
-
 #[test]
 fn a_line_that_fails_changes_no_status(rt: HostRuntime) -> Result<(), Fail> {
-    let changed = changed_by_lines(&rt, rt.alloc())?;
-    assert!(rt; changed.is_empty(), "{changed}");
+    let failures = failures(&rt, rt.alloc(), Trial::LineFails)?;
+    assert!(rt; failures.is_empty(), "{failures}");
     Ok(())
 }
