@@ -1,0 +1,3 @@
+pub mod CValues
+pub mod Ranges
+pub mod Places
