@@ -94,7 +94,8 @@ impl AnswerLine {
 
     /// The bytes as a slice.
     pub fn as_slice(&self) -> &[u8]
-        ensures { result.now ≡ self.now }
+        ensures bytes { result.now ≡ self.now }
+        ensures short { length result.now ≤ 160 }
     {
         &self.bytes[..self.len]
     }

@@ -1,5 +1,4 @@
 pub mod chain
 pub mod chain_command
-pub mod needs_command
 pub mod record_command
 pub mod sim_command

@@ -5,10 +5,10 @@ use Rattle.det_values.specs.declared.frames.Outcome.{Outcome}
 use Rattle.det_values.specs.declared.format.Format.TheVariants.{Two}
 use Rattle.det_values.specs.declared.frames.Outcome.TheVariants.{Finished, Refused}
 use Rattle.record_grammar.specs.Spelling.{MayDrawAll}
-use Rattle.det_record_c.specs.declared.c_types.DetSample.{DetSample}
-use Rattle.det_record_c.specs.declared.c_types.DetTime.{DetTime}
-use Rattle.det_record_c.specs.CValues.{sample_of, cycle_of}
-use Rattle.det_record_c.specs.Ranges.{AreSoundSamples}
+use Rattle.c_types.specs.declared.cycle.DetSample.{DetSample}
+use Rattle.c_types.specs.declared.cycle.DetTime.{DetTime}
+use Rattle.c_types.specs.CValues.{sample_of, cycle_of}
+use Rattle.c_types.specs.Ranges.{AreSoundSamples}
 use Rattle.det_record_c.specs.Parts.{CanBeSpelled}
 
 draws_all : (outcome : Outcome) → MayDrawAll Two outcome

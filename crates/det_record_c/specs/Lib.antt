@@ -1,5 +1,3 @@
-pub mod CValues
-pub mod Ranges
 pub mod Stage
 pub mod Spelling
 pub mod Parts

@@ -1,10 +1,10 @@
 //! The profile and the frames that C's values describe, once these are known to be in their ranges.
 ghost use Rattle.std.specs.Prelude.{◌≡◌, IfOk};
-ghost use Rattle.det_record_c.specs.CValues.{header_of, init_of, input_of, finished_of, refused_of};
-ghost use Rattle.det_record_c.specs.Ranges.{AreSoundSamples, AreSoundElements, IsSoundHeader};
-ghost use Rattle.det_record_c.specs.Ranges.{IsSoundFinish, IsSoundRefusal};
+ghost use Rattle.c_types.specs.CValues.{header_of, init_of, input_of, finished_of, refused_of};
+ghost use Rattle.c_types.specs.Ranges.{AreSoundSamples, AreSoundElements, IsSoundHeader};
+ghost use Rattle.c_types.specs.Ranges.{IsSoundFinish, IsSoundRefusal};
 
-use crate::c_types::{DetElement, DetEvent, DetProfile, DetRefusal, DetSample, DetTime};
+use c_types::{DetElement, DetEvent, DetProfile, DetRefusal, DetSample, DetTime};
 use crate::list;
 use det_values::{Bytes, CycleInput, Format, Frame, Outcome, Params, Profile, RunFrame};
 use record_grammar::Item;

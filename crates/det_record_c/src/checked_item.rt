@@ -1,14 +1,14 @@
 //! The item of each part, or the cause why there is none. The place and the values are checked
 //! here, before an item is built.
-ghost use Rattle.det_record_c.specs.CValues.{header_of, init_of, finished_of, refused_of};
-ghost use Rattle.det_record_c.specs.Ranges.{AreSoundElements, IsSoundHeader, IsSoundFinish};
-ghost use Rattle.det_record_c.specs.Ranges.{IsSoundRefusal};
+ghost use Rattle.c_types.specs.CValues.{header_of, init_of, finished_of, refused_of};
+ghost use Rattle.c_types.specs.Ranges.{AreSoundElements, IsSoundHeader, IsSoundFinish};
+ghost use Rattle.c_types.specs.Ranges.{IsSoundRefusal};
 ghost use Rattle.det_record_c.specs.Parts.{IsMade};
 ghost use Rattle.record_grammar.specs.declared.item.Item.TheVariants as items;
 ghost use Rattle.det_values.specs.declared.frames.Frame.TheVariants as frames;
 
 use crate::build;
-use crate::c_types::{DetElement, DetEvent, DetProfile, DetRefusal, DetSample, DetTime};
+use c_types::{DetElement, DetEvent, DetProfile, DetRefusal, DetSample, DetTime};
 use crate::cause::Cause;
 use crate::det_record::{DetRecord, Part};
 use crate::ranges::{are_sound_elements, is_sound_finish, is_sound_header, is_sound_refusal};

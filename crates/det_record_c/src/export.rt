@@ -8,12 +8,12 @@
 ghost use Rattle.std.specs.Prelude.{[]};
 ghost use Rattle.record_grammar.specs.declared.item.Item.TheVariants as items;
 ghost use Rattle.det_values.specs.declared.frames.Frame.TheVariants as frames;
-ghost use Rattle.det_record_c.specs.CValues.{header_of, init_of, finished_of, refused_of};
-ghost use Rattle.det_record_c.specs.Ranges.{IsSoundHeader, AreSoundElements, IsSoundFinish};
-ghost use Rattle.det_record_c.specs.Ranges.{IsSoundRefusal};
+ghost use Rattle.c_types.specs.CValues.{header_of, init_of, finished_of, refused_of};
+ghost use Rattle.c_types.specs.Ranges.{IsSoundHeader, AreSoundElements, IsSoundFinish};
+ghost use Rattle.c_types.specs.Ranges.{IsSoundRefusal};
 ghost use Rattle.det_record_c.specs.Parts.{Written, call_state, Reports};
 
-use crate::c_types::{DetElement, DetEvent, DetProfile, DetRefusal, DetSample, DetTime};
+use c_types::{DetElement, DetEvent, DetProfile, DetRefusal, DetSample, DetTime};
 use crate::cause::answer;
 use crate::checked_item;
 use crate::det_record::DetRecord;

@@ -3,7 +3,6 @@
 #![tactic(auto)]
 
 mod build;
-mod c_types;
 mod cause;
 mod checked_item;
 mod det_record;

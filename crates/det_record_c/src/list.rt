@@ -1,10 +1,10 @@
 //! Lists that C passes, as the lists of a record.
 ghost use Rattle.std.specs.Prelude.{◌≡◌, ◌≤◌, map, length, IfOk};
 ghost use Rattle.std.specs.List.{All};
-ghost use Rattle.det_record_c.specs.CValues.{sample_of, bytes_of, drawn_of, event_of};
-ghost use Rattle.det_record_c.specs.Ranges.{AreSoundSamples, AreSoundElements, IsSoundEvent};
+ghost use Rattle.c_types.specs.CValues.{sample_of, bytes_of, drawn_of, event_of};
+ghost use Rattle.c_types.specs.Ranges.{AreSoundSamples, AreSoundElements, IsSoundEvent};
 
-use crate::c_types::{DetElement, DetEvent, DetSample};
+use c_types::{DetElement, DetEvent, DetSample};
 use det_values::{Bytes64, DrawnElements, Elements, Events, Samples};
 use std::alloc::{AllocError, Global};
 

@@ -1,10 +1,10 @@
 //! Checks that C's values are in their ranges.
 ghost use Rattle.std.specs.Prelude.{◌↔◌, IsTrue};
 ghost use Rattle.std.specs.List.{All};
-ghost use Rattle.det_record_c.specs.Ranges.{AreSoundSamples, AreSoundElements, IsSoundEvent};
-ghost use Rattle.det_record_c.specs.Ranges.{IsSoundHeader, IsSoundFinish, IsSoundRefusal};
+ghost use Rattle.c_types.specs.Ranges.{AreSoundSamples, AreSoundElements, IsSoundEvent};
+ghost use Rattle.c_types.specs.Ranges.{IsSoundHeader, IsSoundFinish, IsSoundRefusal};
 
-use crate::c_types::{DetElement, DetEvent, DetProfile, DetRefusal, DetSample};
+use c_types::{DetElement, DetEvent, DetProfile, DetRefusal, DetSample};
 
 const MAX_PARAMS: usize = 16;
 

@@ -1,4 +1,4 @@
-use crate::c_types::*;
+use c_types::*;
 use crate::det_record::DetRecord;
 use crate::export::*;
 use std::alloc::Global;

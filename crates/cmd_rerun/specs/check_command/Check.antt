@@ -1,6 +1,6 @@
 -- What `check` gives for the bytes of a record: whether it is what its inputs give, and what an
 -- audience reports of the runs that were compared.
-use Rattle.std.specs.Prelude.{ℕ, List, [], ◌++◌, codes, Result, Ok, Err}
+use Rattle.std.specs.Prelude.{ℕ, List, [], ◌++◌, Result, Ok, Err}
 use Rattle.det_io.specs.Prefix.{IsPrefix}
 use Rattle.det_values.specs.Values.{ProfileValue}
 use Rattle.det_values.specs.declared.frames.RunFrame.{RunFrame}
@@ -12,8 +12,7 @@ use Rattle.rerun.specs.declared.checker.check_verdict.CheckVerdict.{CheckVerdict
 use Rattle.rerun.specs.declared.checker.check_verdict.CheckVerdict.TheVariants.{Genuine, Departs}
 use Rattle.rerun.specs.checker.Departure.{checked_runs}
 use Rattle.rerun.specs.checker.CheckVerdict.{check_verdict}
-use Rattle.record_text.specs.Words.{number_line}
-use Rattle.copies.specs.verdict_text.Verdicts.{place_text}
+use Rattle.copies.specs.verdict_text.Verdicts.{genuine_line, departs_line}
 use Rattle.cli_answers.specs.declared.answer.Answer.{Answer}
 use Rattle.cli_answers.specs.declared.answer.Answer.TheVariants.{Done, Differs, BadRecord}
 use Rattle.cli_answers.specs.Outcome.{Outcome, refusal}
@@ -25,8 +24,8 @@ answer_to (Departs at) = Differs
 
 -- the line of a verdict
 abbrev pub check_line : CheckVerdict → List ℕ
-check_line (Genuine cycles) = number_line (codes "genuine") cycles
-check_line (Departs at) = codes "departs " ++ (place_text at ++ codes "\n")
+check_line (Genuine cycles) = genuine_line cycles
+check_line (Departs at) = departs_line at
 
 -- the line of a verdict and these reports, or the fault of the record
 abbrev pub outcome_by : Result CheckVerdict RecordFault → List ℕ → Outcome

@@ -1,29 +1,18 @@
 //! The command `needs`: reads the manifest and prints its lines.
-ghost use Rattle.std.specs.Prelude.{◌≡◌, ◌∷◌, [], true, IfOk, IsSome};
+ghost use Rattle.std.specs.Prelude.{◌≡◌, ◌∷◌, [], true, IsSome};
 ghost use Rattle.det_io.specs.Count.{Rose};
 ghost use Rattle.det_io.specs.Shelf.{Asks};
 ghost use Rattle.det_io.specs.Traffic.{sink_run};
 ghost use Rattle.cli_answers.specs.Ends.{can_end};
 ghost use Rattle.cli_answers.specs.Outcome.{Meets, known_bytes};
 ghost use Rattle.cli_answers.specs.Slots.{KeepsSlots};
-ghost use Rattle.cmd_run.specs.needs_command.Lines.{needs_lines};
 ghost use Rattle.cmd_run.specs.needs_command.Needs.{needs_outcome, needs_work};
 
-use crate::needs_command::lines::put_needs_lines;
+use crate::needs_command::lines::needs_lines;
 use cli_answers::Answer;
 use det_io::{Shelf, Sink, write_all};
-use manifest::Manifest;
 use run_setup::read_setup;
-use std::alloc::{AllocError, Global};
-
-/// The lines of a manifest, in memory of their own.
-fn needs_text(alloc: Global, manifest: &Manifest) -> Result<Vec<u8>, AllocError>
-    ensures { IfOk result (λ text. text.items ≡ needs_lines manifest.now) }
-{
-    let mut text = Vec::new(alloc);
-    put_needs_lines(&mut text, manifest)?;
-    Ok(text)
-}
+use std::alloc::Global;
 
 /// Prints the lines of the manifest under this name: its job, its cycle time in nanoseconds, its
 /// workers, its platform, and what an initialisation and a run need. If `strict` is set, a key that
@@ -47,11 +36,8 @@ pub fn needs<S: Shelf, K: Sink>(
         Ok(manifest) => manifest,
         Err(end) => return Answer::from(end),
     };
-    let text = match needs_text(alloc, &manifest) {
-        Ok(text) => text,
-        Err(_) => return Answer::OutOfMemory,
-    };
-    match write_all(out, &text) {
+    let lines = needs_lines(&manifest);
+    match write_all(out, lines.as_slice()) {
         Ok(()) => Answer::Done,
         Err(_) => Answer::WriteFault,
     }

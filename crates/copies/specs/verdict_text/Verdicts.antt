@@ -1,4 +1,5 @@
--- The lines of `compare`: whether copies agree, and where they first differ.
+-- The lines of `compare` and of `check`: whether copies agree, or a record is what its inputs give,
+-- and else the first place of a difference.
 use Rattle.std.specs.Prelude.{ℕ, List, ◌++◌, codes, decimal}
 use Rattle.record_text.specs.Words.{number_line}
 use Rattle.copies.specs.declared.difference.Difference.{Difference}
@@ -23,3 +24,11 @@ abbrev pub verdict_line : Verdict → List ℕ
 verdict_line (Agree cycles) = number_line (codes "agree") cycles
 verdict_line (Differ copy at) =
     codes "differ copy " ++ (decimal copy ++ (codes " " ++ (place_text at ++ codes "\n")))
+
+-- a record is what its inputs give
+abbrev pub genuine_line : ℕ → List ℕ
+genuine_line cycles = number_line (codes "genuine") cycles
+
+-- it isn't, first in this place
+abbrev pub departs_line : Difference → List ℕ
+departs_line at = codes "departs " ++ (place_text at ++ codes "\n")

@@ -1,7 +1,7 @@
 use Rattle.std.proofs.Common.{rules, map}
 use Rattle.det_values.specs.declared.frames.Outcome.TheVariants.{Finished}
-use Rattle.det_record_c.specs.CValues.{drawn_of}
-use Rattle.det_record_c.specs.Ranges.{IsSoundFinish}
+use Rattle.c_types.specs.CValues.{drawn_of}
+use Rattle.c_types.specs.Ranges.{IsSoundFinish}
 use Rattle.det_record_c.proofs.Cycles.{cycle_spelled}
 use Rattle.det_record_c.proofs.checked_item.finished.Goals as goal
 

@@ -1,7 +1,7 @@
 use Rattle.std.proofs.Common.{rules}
 use Rattle.det_values.specs.declared.frames.Outcome.TheVariants.{Refused}
-use Rattle.det_record_c.specs.CValues.{place_of_refusal}
-use Rattle.det_record_c.specs.Ranges.{IsSoundRefusal}
+use Rattle.c_types.specs.CValues.{place_of_refusal}
+use Rattle.c_types.specs.Ranges.{IsSoundRefusal}
 use Rattle.det_record_c.proofs.Cycles.{cycle_spelled}
 use Rattle.det_record_c.proofs.checked_item.refused.Goals as goal
 

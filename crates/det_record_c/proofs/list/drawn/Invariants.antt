@@ -1,5 +1,5 @@
 use Rattle.std.proofs.Common.{◌≡◌, map, take}
-use Rattle.det_record_c.specs.CValues.{drawn_of}
+use Rattle.c_types.specs.CValues.{drawn_of}
 use Rattle.det_record_c.proofs.list.drawn.Given as goal
 
 abbrev pub invariant-loop-element : goal.invariant-loop-element

@@ -1,5 +1,5 @@
 use Rattle.std.proofs.Common.{◌≡◌, map, take}
-use Rattle.det_record_c.specs.CValues.{bytes_of}
+use Rattle.c_types.specs.CValues.{bytes_of}
 use Rattle.det_record_c.proofs.list.elements.Given as goal
 
 abbrev pub invariant-loop-element : goal.invariant-loop-element

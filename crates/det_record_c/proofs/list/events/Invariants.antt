@@ -1,5 +1,5 @@
 use Rattle.std.proofs.Common.{◌≡◌, map, take}
-use Rattle.det_record_c.specs.CValues.{event_of}
+use Rattle.c_types.specs.CValues.{event_of}
 use Rattle.det_record_c.proofs.list.events.Given as goal
 
 abbrev pub invariant-loop-event : goal.invariant-loop-event

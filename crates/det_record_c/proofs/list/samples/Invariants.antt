@@ -1,5 +1,5 @@
 use Rattle.std.proofs.Common.{◌≡◌, map, take}
-use Rattle.det_record_c.specs.CValues.{sample_of}
+use Rattle.c_types.specs.CValues.{sample_of}
 use Rattle.det_record_c.proofs.list.samples.Given as goal
 
 abbrev pub invariant-loop-sample : goal.invariant-loop-sample

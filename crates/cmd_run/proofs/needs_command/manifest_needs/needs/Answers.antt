@@ -26,7 +26,7 @@ returns-in-Err-clause-ends g c = rw c.from.ensures (can-end c.in-Err.end needs_w
 
 pub returns-in-Ok-write_all-clause-meets : goal.returns-in-Ok-write_all-clause-meets
 returns-in-Ok-write_all-clause-meets g c =
-    meets-whole _ _ _ _ _ c.deref.result.now (λ e. cc) (λ e. cc)
-    (λ is_known. ap needs_from (c.in-Ok.ensures.manifest is_known) ∙ ap text_outcome (sym (c.deref.ensures.value
-    ∙ c.in-Ok-needs_text.ensures)))
+    meets-whole _ _ _ _ _ c.as_slice.result.now (λ e. cc) (λ e. cc)
+    (λ is_known. ap needs_from (c.in-Ok.ensures.manifest is_known) ∙ ap text_outcome (sym (c.as_slice.ensures.bytes
+    ∙ c.needs_lines.ensures)))
     c.in-Ok-write_all.ensures.all

@@ -1,31 +1,9 @@
-//! The structs that C passes, and their values for a record.
+//! The parts of a cycle: its time, its samples, its elements, and its refusal.
 ghost use Rattle.std.specs.Prelude.{◌≡◌, ◌≤◌, ◌↔◌, length, IsTrue, IfSome, IfNone};
 ghost use Rattle.det_values.specs.Limits.{IsSampleValue};
-ghost use Rattle.record_grammar.specs.Grammar.{policy_of};
 ghost use Rattle.record_grammar.specs.Spelling.{IsSample};
 
-use det_values::{EventName, EventSpec, Phase, Policy, RefusedAt, Sample};
-
-/// What a client and its job are made from, besides parameters and events.
-#[repr(C)]
-#[derive(Drop)]
-pub struct DetProfile {
-    pub seed: u64,
-    /// In nanoseconds, 1 to 2^63 - 1.
-    pub cycle_time: u64,
-    pub job: u16,
-}
-
-/// An event. Its name is the first `len` bytes of `name`. The policy is 0 for the last samples and
-/// 1 for fresh ones.
-#[repr(C)]
-#[derive(Drop)]
-pub struct DetEvent {
-    pub name: [u8; 32],
-    pub capacity: u16,
-    pub len: u8,
-    pub policy: u8,
-}
+use det_values::{Phase, RefusedAt, Sample};
 
 /// A sample of an event. Events are numbered from 0.
 #[repr(C)]
@@ -64,47 +42,17 @@ pub struct DetRefusal {
     pub pass: u8,
 }
 
-fn policy(number: u8) -> Policy
-    ensures { result ≡ policy_of number }
-{
-    match number {
-        0 => Policy::Last,
-        _ => Policy::Fresh,
-    }
-}
-
-impl DetEvent {
-    ghost use Rattle.det_record_c.specs.CValues.{event_of};
-    ghost use Rattle.det_record_c.specs.Ranges.{IsSoundEvent};
-
-    /// The event. None if a field is out of its range.
-    pub(crate) fn spec(&self) -> Option<EventSpec>
-        ensures some { IfSome result (λ e. (e ≡ event_of self.now) × IsSoundEvent self.now) }
-        ensures none { IfNone result (IsSoundEvent self.now → ⊥) }
-    {
-        if self.capacity == 0 || self.capacity > 1024 || self.len > 32 || self.policy > 1 {
-            return None;
-        }
-        let name = EventName::from_bytes(&self.name[..usize::from(self.len)])?;
-        Some(EventSpec {
-            capacity: self.capacity,
-            name,
-            policy: policy(self.policy),
-        })
-    }
-}
-
 impl DetSample {
-    ghost use Rattle.det_record_c.specs.CValues.{sample_of};
+    ghost use Rattle.c_types.specs.CValues.{sample_of};
 
     /// Whether the value is in its range and the event's number is below `events`.
-    pub(crate) fn is_sample_of(&self, events: u16) -> bool
+    pub fn is_sample_of(&self, events: u16) -> bool
         ensures { IsTrue result ↔ IsSample events (sample_of self.now) }
     {
         self.event < events && -1_000_000_000_000 <= self.value && self.value <= 1_000_000_000_000
     }
 
-    pub(crate) fn sample(&self) -> Sample
+    pub fn sample(&self) -> Sample
         requires { IsSampleValue self.now.value }
         ensures { result ≡ sample_of self.now }
     {
@@ -113,13 +61,23 @@ impl DetSample {
             value: self.value,
         }
     }
+
+    /// The struct of a sample.
+    pub fn from_sample(sample: Sample) -> DetSample
+        ensures { sample_of result ≡ sample }
+    {
+        DetSample {
+            value: sample.value,
+            event: sample.event,
+        }
+    }
 }
 
 impl DetElement {
-    ghost use Rattle.det_record_c.specs.CValues.{bytes_of};
+    ghost use Rattle.c_types.specs.CValues.{bytes_of};
 
     /// The bytes that are used.
-    pub(crate) fn used_bytes(&self) -> &[u8]
+    pub fn used_bytes(&self) -> &[u8]
         requires { self.now.len ≤ 64 }
         ensures bytes { result.now ≡ bytes_of self.now }
         ensures short { length result.now ≤ 64 }
@@ -129,21 +87,34 @@ impl DetElement {
 }
 
 impl DetTime {
-    ghost use Rattle.det_record_c.specs.CValues.{time_of};
+    ghost use Rattle.c_types.specs.CValues.{time_of};
 
-    pub(crate) fn time(&self) -> Option<u64>
+    pub fn time(&self) -> Option<u64>
         ensures { result ≡ time_of self.now }
     {
         if self.known { Some(self.time) } else { None }
     }
+
+    /// The struct of a time. An unknown one is 0.
+    pub fn from_time(time: Option<u64>) -> DetTime
+        ensures { time_of result ≡ time }
+    {
+        match time {
+            Some(time) => DetTime { time, known: true },
+            None => DetTime {
+                time: 0,
+                known: false,
+            },
+        }
+    }
 }
 
 impl DetRefusal {
-    ghost use Rattle.det_record_c.specs.CValues.{place_of_refusal};
-    ghost use Rattle.det_record_c.specs.Ranges.{IsSoundPlace};
+    ghost use Rattle.c_types.specs.CValues.{place_of_refusal};
+    ghost use Rattle.c_types.specs.Ranges.{IsSoundPlace};
 
     /// The place and the code. None if the place is out of its range.
-    pub(crate) fn place(&self) -> Option<RefusedAt>
+    pub fn place(&self) -> Option<RefusedAt>
         ensures some { IfSome result (λ at. (at ≡ place_of_refusal self.now)
             × IsSoundPlace self.now) }
         ensures none { IfNone result (IsSoundPlace self.now → ⊥) }
@@ -160,5 +131,22 @@ impl DetRefusal {
             element: self.element,
             code: self.code,
         })
+    }
+
+    /// The struct of a place and a code.
+    pub fn from_place(at: RefusedAt) -> DetRefusal
+        ensures { place_of_refusal result ≡ at }
+    {
+        let phase = match at.phase {
+            Phase::Prepare => 0,
+            Phase::Pool => 1,
+            Phase::Conclude => 2,
+        };
+        DetRefusal {
+            element: at.element,
+            code: at.code,
+            phase,
+            pass: at.pass,
+        }
     }
 }

@@ -10,12 +10,13 @@ use Rattle.det_values.specs.Values.{SampleValue, EventSpecValue, ProfileValue, R
 use Rattle.record_grammar.specs.declared.item.Item.{Item}
 use Rattle.record_grammar.specs.declared.item.Item.TheVariants as items
 use Rattle.record_grammar.specs.Grammar.{policy_of, phase_of}
-use Rattle.det_record_c.specs.declared.c_types.DetProfile.{DetProfile}
-use Rattle.det_record_c.specs.declared.c_types.DetEvent.{DetEvent}
-use Rattle.det_record_c.specs.declared.c_types.DetSample.{DetSample}
-use Rattle.det_record_c.specs.declared.c_types.DetElement.{DetElement}
-use Rattle.det_record_c.specs.declared.c_types.DetTime.{DetTime}
-use Rattle.det_record_c.specs.declared.c_types.DetRefusal.{DetRefusal}
+use Rattle.c_types.specs.declared.profile.DetProfile.{DetProfile}
+use Rattle.c_types.specs.declared.profile.DetEvent.{DetEvent}
+use Rattle.c_types.specs.declared.cycle.DetSample.{DetSample}
+use Rattle.c_types.specs.declared.cycle.DetElement.{DetElement}
+use Rattle.c_types.specs.declared.cycle.DetTime.{DetTime}
+use Rattle.c_types.specs.declared.cycle.DetRefusal.{DetRefusal}
+use Rattle.c_types.specs.declared.text.DetText.{DetText}
 
 abbrev pub sample_of : DetSample → SampleValue
 sample_of s = record { event = s.event; value = s.value }
@@ -77,3 +78,8 @@ finished_of time samples elements output =
 
 abbrev pub refused_of : DetTime → List DetSample → DetRefusal → Item
 refused_of time samples refusal = cycle_of time samples (Refused (place_of_refusal refusal))
+
+-- ---- texts
+
+abbrev pub text_of : DetText → List ℕ
+text_of t = take t.len t.bytes

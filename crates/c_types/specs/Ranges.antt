@@ -4,12 +4,12 @@ use Rattle.std.specs.List.{All}
 use Rattle.det_values.specs.Limits.{IsCycleTime, IsPlace}
 use Rattle.record_grammar.specs.Grammar.{phase_of}
 use Rattle.record_grammar.specs.Spelling.{IsEvent, IsSample}
-use Rattle.det_record_c.specs.declared.c_types.DetProfile.{DetProfile}
-use Rattle.det_record_c.specs.declared.c_types.DetEvent.{DetEvent}
-use Rattle.det_record_c.specs.declared.c_types.DetSample.{DetSample}
-use Rattle.det_record_c.specs.declared.c_types.DetElement.{DetElement}
-use Rattle.det_record_c.specs.declared.c_types.DetRefusal.{DetRefusal}
-use Rattle.det_record_c.specs.CValues.{event_of, sample_of}
+use Rattle.c_types.specs.declared.profile.DetProfile.{DetProfile}
+use Rattle.c_types.specs.declared.profile.DetEvent.{DetEvent}
+use Rattle.c_types.specs.declared.cycle.DetSample.{DetSample}
+use Rattle.c_types.specs.declared.cycle.DetElement.{DetElement}
+use Rattle.c_types.specs.declared.cycle.DetRefusal.{DetRefusal}
+use Rattle.c_types.specs.CValues.{event_of, sample_of}
 
 -- a name is within its field, and a policy is one of two numbers
 abbrev pub IsSoundEvent : DetEvent → Type 0
