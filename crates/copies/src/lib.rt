@@ -2,6 +2,7 @@
 //! differ.
 #![tactic(auto)]
 
+mod check_verdict;
 mod copies;
 mod copy_readers;
 mod difference;
@@ -14,6 +15,7 @@ mod side_by_side;
 mod verdict;
 pub mod verdict_text;
 
+pub use check_verdict::CheckVerdict;
 pub use difference::Difference;
 pub use frame_differences::first_frame_difference;
 pub use row::Row;

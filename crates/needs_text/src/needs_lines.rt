@@ -1,20 +1,21 @@
 //! The lines of a manifest. The longest of them have less than 600 bytes.
 ghost use Rattle.std.specs.Prelude.{◌≡◌, ◌+◌, ◌≤◌, ◌++◌, length, option_map, Some, None};
-ghost use Rattle.std.specs.Prelude.{IfSome};
+ghost use Rattle.std.specs.Prelude.{IfSome, unwrap_or, codes};
 ghost use Rattle.record_text.specs.Words.{number_line};
-ghost use Rattle.needs_text.specs.Lines.{job_line, platform_line, needs_text, needs_lines};
+ghost use Rattle.needs_text.specs.Lines.{text_line, needs_text, needs_lines};
 
 use crate::ShortText;
 use manifest::Needs;
 
 impl ShortText {
-    fn push_job_line(&mut self, name: &[u8])
-        requires { length self.old + length name.now + 5 ≤ 1024 }
-        ensures text { self.new ≡ self.old ++ job_line name.now }
-        ensures short { length self.new ≤ length self.old + length name.now + 5 }
+    fn push_text_line(&mut self, word: &str, text: &[u8])
+        requires { length self.old + length word.now + length text.now + 2 ≤ 1024 }
+        ensures text { self.new ≡ self.old ++ text_line word.now text.now }
+        ensures short { length self.new ≤ length self.old + length word.now + length text.now + 2 }
     {
-        self.push("job ");
-        self.push_bytes(name);
+        self.push(word);
+        self.push(" ");
+        self.push_bytes(text);
         self.push("\n");
     }
 
@@ -32,16 +33,14 @@ impl ShortText {
     fn push_platform_line(&mut self, name: Option<&[u8]>)
         requires name { IfSome name (λ bytes. length bytes.now ≤ 64) }
         requires room { length self.old ≤ 900 }
-        ensures text { self.new
-            ≡ self.old ++ platform_line (option_map (λ bytes. bytes.now) name.entry) }
+        ensures text { self.new ≡ self.old ++ text_line (codes "platform")
+            (unwrap_or (option_map (λ bytes. bytes.now) name.entry) (codes "none")) }
         ensures short { length self.new ≤ length self.old + 74 }
     {
-        self.push("platform ");
         match name {
-            Some(bytes) => self.push_bytes(bytes),
-            None => self.push("none"),
+            Some(bytes) => self.push_text_line("platform", bytes),
+            None => self.push_text_line("platform", b"none"),
         }
-        self.push("\n");
     }
 
     fn push_need(&mut self, word: &str, key: &str, number: u64)
@@ -98,7 +97,7 @@ pub fn manifest_text(
         (option_map (λ bytes. bytes.now) platform.entry) init run }
 {
     let mut text = ShortText::new();
-    text.push_job_line(job);
+    text.push_text_line("job", job);
     text.push_number_line("cycle_time", cycle_time);
     text.push_number_line("workers", workers as u64);
     text.push_platform_line(platform);

@@ -2,13 +2,11 @@
 //! read and the frame that its input gives. It writes nothing.
 
 mod check;
-mod check_verdict;
 mod frame_checker;
 mod frame_pair;
 mod frame_room;
 mod next_run;
 
 pub use check::check_run;
-pub use check_verdict::CheckVerdict;
 pub use frame_pair::FramePair;
 pub use frame_room::FrameRoom;

@@ -8,11 +8,11 @@ use Rattle.job.specs.Meaning.{Meaning}
 use Rattle.record_grammar.specs.declared.record_fault.RecordFault.{RecordFault}
 use Rattle.probes.specs.Reports.{AudienceState, reported}
 use Rattle.probes.specs.Shows.{SawRuns}
-use Rattle.rerun.specs.declared.checker.check_verdict.CheckVerdict.{CheckVerdict}
-use Rattle.rerun.specs.declared.checker.check_verdict.CheckVerdict.TheVariants.{Genuine, Departs}
+use Rattle.copies.specs.declared.check_verdict.CheckVerdict.{CheckVerdict}
+use Rattle.copies.specs.declared.check_verdict.CheckVerdict.TheVariants.{Genuine, Departs}
 use Rattle.rerun.specs.checker.Departure.{checked_runs}
 use Rattle.rerun.specs.checker.CheckVerdict.{check_verdict}
-use Rattle.copies.specs.verdict_text.Verdicts.{genuine_line, departs_line}
+use Rattle.copies.specs.verdict_text.Verdicts.{check_line}
 use Rattle.cli_answers.specs.declared.answer.Answer.{Answer}
 use Rattle.cli_answers.specs.declared.answer.Answer.TheVariants.{Done, Differs, BadRecord}
 use Rattle.cli_answers.specs.Outcome.{Outcome, refusal}
@@ -21,11 +21,6 @@ use Rattle.run_setup.specs.recorded_run.Run.{run_of, over_run, refused}
 abbrev pub answer_to : CheckVerdict → Answer
 answer_to (Genuine cycles) = Done
 answer_to (Departs at) = Differs
-
--- the line of a verdict
-abbrev pub check_line : CheckVerdict → List ℕ
-check_line (Genuine cycles) = genuine_line cycles
-check_line (Departs at) = departs_line at
 
 -- the line of a verdict and these reports, or the fault of the record
 abbrev pub outcome_by : Result CheckVerdict RecordFault → List ℕ → Outcome

@@ -5,8 +5,8 @@ use Rattle.det_io.specs.declared.failure.Stopped.{Stopped}
 use Rattle.job.specs.Meaning.{Meaning}
 use Rattle.record_grammar.specs.declared.record_fault.RecordFault.{RecordFault}
 use Rattle.record_grammar.specs.Record.{fault as fault_in}
-use Rattle.rerun.specs.declared.checker.check_verdict.CheckVerdict.{CheckVerdict}
-use Rattle.rerun.specs.declared.checker.check_verdict.CheckVerdict.TheVariants.{Genuine, Departs}
+use Rattle.copies.specs.declared.check_verdict.CheckVerdict.{CheckVerdict}
+use Rattle.copies.specs.declared.check_verdict.CheckVerdict.TheVariants.{Genuine, Departs}
 use Rattle.rerun.specs.checker.Departure.{departure}
 use Rattle.rerun.specs.upgrader.UpgradedRecord.{upgraded}
 use Rattle.cli_answers.specs.declared.answer.Answer.{Answer}

@@ -3,14 +3,14 @@ ghost use Rattle.std.specs.Prelude.{◌≡◌, ◌++◌, true, Ok, IfOk, OnOk};
 ghost use Rattle.det_io.specs.Traffic.{sink_run};
 ghost use Rattle.cli_answers.specs.Ends.{can_end, compares_runs};
 ghost use Rattle.cli_answers.specs.Outcome.{Meets};
-ghost use Rattle.cmd_rerun.specs.check_command.Check.{answer_to, check_line, outcome_by};
+ghost use Rattle.copies.specs.verdict_text.Verdicts.{check_line};
+ghost use Rattle.cmd_rerun.specs.check_command.Check.{answer_to, outcome_by};
 
 use cli_answers::Answer;
-use copies::Difference;
 use copies::verdict_text::put_difference_place;
+use copies::{CheckVerdict, Difference};
 use det_io::{Sink, write_all};
 use record_text::{put_number_line, put_str};
-use rerun::checker::CheckVerdict;
 use std::alloc::{AllocError, Global};
 
 /// The answer of the command for a verdict.

@@ -1,11 +1,12 @@
 //! Adapts `check_run` to `Visit`, so that `with_crew` can call it.
+use copies::CheckVerdict;
 use det_io::{Sink, Slots, Stopped};
 use job::{Job, Pool};
 use probes::{Audience, Probe};
 use record_grammar::RecordFault;
 use record_reader::FrameReader;
 use recorder::run_writer::Recording;
-use rerun::checker::{CheckVerdict, check_run};
+use rerun::checker::check_run;
 use shipped_crews::Visit;
 
 /// Checks a record. Only its header was read before.

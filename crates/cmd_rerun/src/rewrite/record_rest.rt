@@ -11,12 +11,12 @@ ghost use Rattle.cmd_rerun.specs.rewrite.RewriteVisit.{outcome_with, work_of};
 ghost use Rattle.cmd_rerun.specs.Rest.{IsRerun};
 
 use cli_answers::Answer;
+use copies::CheckVerdict;
 use det_io::{Sink, Slots, Stopped};
 use job::{Job, Pool};
 use record_grammar::RecordFault;
 use record_reader::FrameReader;
 use recorder::run_writer::{Counts, Recording};
-use rerun::checker::CheckVerdict;
 use rerun::replayer::replay_run;
 use rerun::upgrader::{Original, upgrade_run};
 

@@ -1,6 +1,7 @@
 //! The lines of a manifest as text. `needs` reads the manifest and prints them.
 ghost use Rattle.std.specs.Prelude.{◌≡◌, ◌≤◌, length, option_map, IfSome};
-ghost use Rattle.cmd_run.specs.needs_command.Lines.{job_name, needs_lines};
+ghost use Rattle.needs_text.specs.Lines.{needs_lines};
+ghost use Rattle.cmd_run.specs.needs_command.Needs.{job_name};
 
 use det_values::JobKind;
 use manifest::{Manifest, Needs};
@@ -38,7 +39,8 @@ fn copied_needs(needs: Option<&Needs>) -> Option<Needs>
 
 /// The lines of a manifest.
 pub(crate) fn needs_lines(manifest: &Manifest) -> ShortText
-    ensures { result ≡ needs_lines manifest.now }
+    ensures { result ≡ needs_lines (job_name manifest.now.kind) manifest.now.cycle_time
+        manifest.now.workers manifest.now.platform manifest.now.init_needs manifest.now.run_needs }
 {
     manifest_text(
         job_name(manifest.kind()).as_bytes(),

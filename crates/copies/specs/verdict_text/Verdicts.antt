@@ -6,6 +6,8 @@ use Rattle.copies.specs.declared.difference.Difference.{Difference}
 use Rattle.copies.specs.declared.difference.Difference.TheVariants.{Header, Kind, Time}
 use Rattle.copies.specs.declared.difference.Difference.TheVariants.{Samples, Result, Element}
 use Rattle.copies.specs.declared.difference.Difference.TheVariants.{Output}
+use Rattle.copies.specs.declared.check_verdict.CheckVerdict.{CheckVerdict}
+use Rattle.copies.specs.declared.check_verdict.CheckVerdict.TheVariants.{Genuine, Departs}
 use Rattle.copies.specs.declared.verdict.Verdict.{Verdict}
 use Rattle.copies.specs.declared.verdict.Verdict.TheVariants.{Agree, Differ}
 
@@ -15,8 +17,7 @@ place_text (Kind frame) = codes "kind " ++ decimal frame
 place_text (Time cycle) = codes "time " ++ decimal cycle
 place_text (Samples cycle) = codes "samples " ++ decimal cycle
 place_text (Result cycle) = codes "result " ++ decimal cycle
-place_text (Element cycle element) =
-    codes "element " ++ (decimal cycle ++ (codes " " ++ decimal element))
+place_text (Element cycle at) = codes "element " ++ (decimal cycle ++ (codes " " ++ decimal at))
 place_text (Output cycle) = codes "output " ++ decimal cycle
 
 -- the line of a verdict
@@ -25,10 +26,7 @@ verdict_line (Agree cycles) = number_line (codes "agree") cycles
 verdict_line (Differ copy at) =
     codes "differ copy " ++ (decimal copy ++ (codes " " ++ (place_text at ++ codes "\n")))
 
--- a record is what its inputs give
-abbrev pub genuine_line : ℕ → List ℕ
-genuine_line cycles = number_line (codes "genuine") cycles
-
--- it isn't, first in this place
-abbrev pub departs_line : Difference → List ℕ
-departs_line at = codes "departs " ++ (place_text at ++ codes "\n")
+-- the line of a check
+abbrev pub check_line : CheckVerdict → List ℕ
+check_line (Genuine cycles) = number_line (codes "genuine") cycles
+check_line (Departs at) = codes "departs " ++ (place_text at ++ codes "\n")

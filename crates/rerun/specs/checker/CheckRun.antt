@@ -14,8 +14,8 @@ use Rattle.record_grammar.specs.Record.{fault_so_far}
 use Rattle.record_reader.specs.ItemTaker.{OfSlot}
 use Rattle.probes.specs.Reports.{AudienceState}
 use Rattle.probes.specs.Shows.{SawRuns}
-use Rattle.rerun.specs.declared.checker.check_verdict.CheckVerdict.{CheckVerdict}
-use Rattle.rerun.specs.declared.checker.check_verdict.CheckVerdict.TheVariants.{Genuine, Departs}
+use Rattle.copies.specs.declared.check_verdict.CheckVerdict.{CheckVerdict}
+use Rattle.copies.specs.declared.check_verdict.CheckVerdict.TheVariants.{Genuine, Departs}
 use Rattle.rerun.specs.checker.Departure.{departure, checked_runs}
 use Rattle.rerun.specs.checker.Needed.{IsNeeded}
 use Rattle.rerun.specs.checker.CheckVerdict.{check_verdict}

@@ -11,8 +11,8 @@ use Rattle.job.specs.Meaning.{Meaning}
 use Rattle.record_grammar.specs.declared.record_fault.RecordFault.{RecordFault}
 use Rattle.record_grammar.specs.Record.{fault_so_far}
 use Rattle.record_reader.specs.ItemTaker.{OfSlot}
-use Rattle.rerun.specs.declared.checker.check_verdict.CheckVerdict.{CheckVerdict}
-use Rattle.rerun.specs.declared.checker.check_verdict.CheckVerdict.TheVariants.{Genuine, Departs}
+use Rattle.copies.specs.declared.check_verdict.CheckVerdict.{CheckVerdict}
+use Rattle.copies.specs.declared.check_verdict.CheckVerdict.TheVariants.{Genuine, Departs}
 use Rattle.rerun.specs.replayer.ReplayEnds.{PartTaken}
 use Rattle.rerun.specs.checker.Departure.{departure}
 use Rattle.rerun.specs.checker.Needed.{IsNeeded}

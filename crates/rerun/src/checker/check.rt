@@ -7,8 +7,8 @@ ghost use Rattle.probes.specs.Shows.{seen};
 ghost use Rattle.rerun.specs.replayer.ReplayStart.{IsBegun};
 ghost use Rattle.rerun.specs.checker.CheckRun.{IsChecked};
 
-use crate::checker::CheckVerdict;
 use crate::checker::frame_checker::FrameChecker;
+use copies::CheckVerdict;
 use det_io::{Slots, Stopped};
 use job::{Job, Pool};
 use probes::{Audience, Probe};

@@ -12,9 +12,9 @@ ghost use Rattle.rerun.specs.upgrader.UpgradeEnds.{IsUpgraded};
 ghost use Rattle.rerun.specs.upgrader.Frames.{unless_last};
 ghost use Rattle.rerun.specs.checker.RerunFrames.{input_of};
 
-use crate::checker::{CheckVerdict, FramePair, FrameRoom};
+use crate::checker::{FramePair, FrameRoom};
 use crate::upgrader::Original;
-use copies::Difference;
+use copies::{CheckVerdict, Difference};
 use det_io::{Failure, Sink, Slots, Stopped};
 use det_values::{Format, Frame, reduce_to_format};
 use job::{Job, Pool};

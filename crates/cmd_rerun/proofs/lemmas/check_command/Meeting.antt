@@ -18,7 +18,7 @@ use Rattle.record_grammar.specs.declared.item.Item.TheVariants.{Header}
 use Rattle.record_reader.specs.declared.frame_reader.FrameReader.{FrameReader}
 use Rattle.record_reader.specs.Frames.{StandsFor, slot_of}
 use Rattle.probes.specs.Reports.{AudienceState, reported}
-use Rattle.rerun.specs.declared.checker.check_verdict.CheckVerdict.{CheckVerdict}
+use Rattle.copies.specs.declared.check_verdict.CheckVerdict.{CheckVerdict}
 use Rattle.rerun.specs.checker.Departure.{checked_runs}
 use Rattle.rerun.specs.checker.CheckRun.{Answers}
 use Rattle.cli_answers.specs.declared.answer.Answer.{Answer}

@@ -19,7 +19,7 @@ use Rattle.record_reader.specs.Frames.{StandsFor, slot_of}
 use Rattle.probes.specs.Reports.{AudienceState, reported}
 use Rattle.probes.proofs.Shown.{all-told}
 use Rattle.probes.specs.Shows.{SawRuns}
-use Rattle.rerun.specs.declared.checker.check_verdict.CheckVerdict.{CheckVerdict}
+use Rattle.copies.specs.declared.check_verdict.CheckVerdict.{CheckVerdict}
 use Rattle.rerun.specs.checker.Departure.{checked_runs}
 use Rattle.cli_answers.specs.declared.answer.Answer.{Answer}
 use Rattle.cli_answers.specs.declared.answer.Answer.TheVariants.{OutOfMemory}

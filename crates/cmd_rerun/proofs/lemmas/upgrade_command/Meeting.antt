@@ -17,8 +17,8 @@ use Rattle.record_grammar.specs.Record.{fault as fault_in}
 use Rattle.record_reader.specs.declared.frame_reader.FrameReader.{FrameReader}
 use Rattle.record_reader.specs.Frames.{StandsFor, slot_of}
 use Rattle.copies.specs.declared.difference.Difference.{Difference}
-use Rattle.rerun.specs.declared.checker.check_verdict.CheckVerdict.{CheckVerdict}
-use Rattle.rerun.specs.declared.checker.check_verdict.CheckVerdict.TheVariants.{Genuine, Departs}
+use Rattle.copies.specs.declared.check_verdict.CheckVerdict.{CheckVerdict}
+use Rattle.copies.specs.declared.check_verdict.CheckVerdict.TheVariants.{Genuine, Departs}
 use Rattle.rerun.specs.checker.Departure.{departure}
 use Rattle.rerun.specs.checker.CheckVerdict.{verdict_by, check_verdict}
 use Rattle.rerun.specs.upgrader.UpgradedRecord.{upgraded}

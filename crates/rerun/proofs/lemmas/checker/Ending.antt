@@ -30,8 +30,8 @@ use Rattle.rerun.specs.replayer.ReplayRecord.{inputs}
 use Rattle.copies.specs.declared.difference.Difference.{Difference}
 use Rattle.copies.specs.FirstDifference.{frame_difference}
 use Rattle.rerun.specs.declared.checker.frame_checker.FrameChecker.{FrameChecker}
-use Rattle.rerun.specs.declared.checker.check_verdict.CheckVerdict.{CheckVerdict}
-use Rattle.rerun.specs.declared.checker.check_verdict.CheckVerdict.TheVariants.{Genuine, Departs}
+use Rattle.copies.specs.declared.check_verdict.CheckVerdict.{CheckVerdict}
+use Rattle.copies.specs.declared.check_verdict.CheckVerdict.TheVariants.{Genuine, Departs}
 use Rattle.rerun.specs.checker.Departure.{frames_in, run_of, departure, checked_runs}
 use Rattle.record_reader.specs.InItems.{frame_in}
 use Rattle.rerun.specs.checker.RerunFrames.{rerun_frame}

@@ -27,8 +27,8 @@ use Rattle.copies.specs.declared.difference.Difference.{Difference}
 use Rattle.recorder.specs.declared.run_writer.recording.Recording.{Recording}
 use Rattle.recorder.specs.run_writer.Recording.{Cuts}
 use Rattle.rerun.specs.replayer.ReplayRecord.{inputs}
-use Rattle.rerun.specs.declared.checker.check_verdict.CheckVerdict.{CheckVerdict}
-use Rattle.rerun.specs.declared.checker.check_verdict.CheckVerdict.TheVariants.{Genuine, Departs}
+use Rattle.copies.specs.declared.check_verdict.CheckVerdict.{CheckVerdict}
+use Rattle.copies.specs.declared.check_verdict.CheckVerdict.TheVariants.{Genuine, Departs}
 use Rattle.rerun.specs.checker.Departure.{departure}
 use Rattle.rerun.specs.checker.Needed.{IsNeeded}
 use Rattle.rerun.specs.checker.CheckVerdict.{verdict_by, check_verdict}

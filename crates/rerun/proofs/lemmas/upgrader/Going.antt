@@ -32,7 +32,7 @@ use Rattle.copies.specs.FirstDifference.{frame_difference}
 use Rattle.recorder.specs.declared.run_writer.recording.Recording.{Recording}
 use Rattle.record_reader.specs.InItems.{frame_in}
 use Rattle.rerun.specs.checker.RerunFrames.{IsEngineAfter, input_of, rerun_frame}
-use Rattle.rerun.specs.declared.checker.check_verdict.CheckVerdict.{CheckVerdict}
+use Rattle.copies.specs.declared.check_verdict.CheckVerdict.{CheckVerdict}
 use Rattle.rerun.proofs.lemmas.checker.Departing.{inputs_of}
 use Rattle.rerun.proofs.lemmas.checker.Records.{frames-are}
 use Rattle.rerun.proofs.lemmas.checker.Running.{items_with, items-next, inputs-next, HasCompared, Next, compared-then}

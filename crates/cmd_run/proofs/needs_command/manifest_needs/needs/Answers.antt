@@ -6,13 +6,13 @@ use Rattle.cli_answers.specs.Outcome.{Outcome, known_bytes, text_outcome}
 use Rattle.cli_answers.proofs.AnswerMeets.{meets-whole}
 use Rattle.run_setup.proofs.Ending.{meets-end, can-end}
 use Rattle.run_setup.specs.Setup.{with_manifest}
-use Rattle.cmd_run.specs.needs_command.Lines.{needs_lines}
-use Rattle.cmd_run.specs.needs_command.Needs.{needs_work}
+use Rattle.needs_text.specs.Lines.{needs_lines}
+use Rattle.cmd_run.specs.needs_command.Needs.{needs_work, job_name}
 use Rattle.cmd_run.proofs.needs_command.manifest_needs.needs.Goals as goal
 
 -- the lines of the manifest that a text is, or its refusal
 abbrev needs_from : Result ManifestValue BadManifest → Outcome
-needs_from = with_manifest (λ m. text_outcome (needs_lines m))
+needs_from = with_manifest (λ m. text_outcome (needs_lines (job_name m.kind) m.cycle_time m.workers m.platform m.init_needs m.run_needs))
 
 pub returns-in-Err-clause-meets : goal.returns-in-Err-clause-meets
 returns-in-Err-clause-meets g c =

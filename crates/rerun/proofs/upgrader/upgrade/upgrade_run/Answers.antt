@@ -11,7 +11,7 @@ use Rattle.record_reader.proofs.Views.{shelf-then, same-failure}
 use Rattle.record_reader.specs.Frames.{RoomFell, room}
 use Rattle.recorder.specs.run_writer.Recording.{Cuts}
 use Rattle.rerun.specs.checker.RerunFrames.{IsPlaced, IsEngineAfter}
-use Rattle.rerun.specs.declared.checker.check_verdict.CheckVerdict.{CheckVerdict}
+use Rattle.copies.specs.declared.check_verdict.CheckVerdict.{CheckVerdict}
 use Rattle.rerun.specs.upgrader.UpgradeStart.{in_format_of, header_of}
 use Rattle.rerun.specs.upgrader.Frames.{GoesOn}
 use Rattle.rerun.proofs.lemmas.checker.Departing.{inputs_of}

@@ -1,5 +1,5 @@
-//! `CheckVerdict`: what a check or an upgrade finds out about a record.
-use copies::Difference;
+//! `CheckVerdict`: what a check or an upgrade of a record returns.
+use crate::Difference;
 
 /// Whether a record is what its inputs give.
 #[derive(Clone, Copy, Debug, PartialEq, Eq, Drop)]
