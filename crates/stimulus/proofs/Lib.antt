@@ -1,6 +1,7 @@
 pub mod Numbers
 pub mod Parts
 pub mod Going
+pub mod Following
 pub mod Within
 pub mod Counting
 pub mod Standing

@@ -1,9 +1,9 @@
 -- The lines of a text.
 use Rattle.std.proofs.Common.{◌≡◌, ℕ, suc, ◌+◌, ◌<◌, ◌≤◌, List, [], ◌∷◌, ◌++◌, length, take, drop, get_or, Bool, true, false, cond, not}
-use Rattle.std.proofs.Common.{nat_eq, Some, None, refl, sym, ap, ◌∙◌, arith, drop-cons, add-one, append_assoc, take-append-drop}
+use Rattle.std.proofs.Common.{nat_eq, Some, None, refl, sym, ap, ◌∙◌, arith, append_assoc, take-append-drop}
 use Rattle.std.proofs.Common.{length-take}
 use Rattle.std.specs.List.{onto_first, position, position_or_len, All}
-use Rattle.std.proofs.lemmas.List.{get_or-take}
+use Rattle.std.proofs.lemmas.List.{get_or-take, take_more}
 use Rattle.std.proofs.lemmas.List.Quantifiers.{position-Some}
 use Rattle.std.proofs.lemmas.List.Splits.{slice_split_at}
 use Rattle.std.proofs.lemmas.List.Elements.{All-from_get_or}
@@ -76,12 +76,9 @@ long_line n bytes large within e tail =
     let long : length shown ≤ length h.line = h.long in
     record { line = h.line; others = h.others; is = ap parts (sym whole) ∙ h.is; long = omega (arith, length-take n bytes) }
 
-at_end : (bs : List ℕ) (i : ℕ) → i < length bs → drop i bs ≡ get_or bs i 0 ∷ drop (i + 1) bs
-at_end bs i within = rw add-one (drop-cons bs i 0 within)
-
 -- the first LF cuts off a line, whatever follows
 pub cut : (n : ℕ) (bytes : List ℕ) (end : ℕ) → n ≤ 129 → position is_lf (take n bytes) ≡ Some end
-    → (end < length bytes) × (end ≤ 128) × ((tail : List ℕ) → parts (bytes ++ tail) ≡ take end bytes ∷ parts (drop (end + 1) bytes ++ tail))
+    → (end < length bytes) × (end ≤ 128) × ((tail : List ℕ) → parts (take (end + 1) bytes ++ tail) ≡ take end bytes ∷ parts tail)
 cut n bytes end few e =
     let found = position-Some is_lf (take n bytes) end 0 e in
     let in_shown : end < length (take n bytes) = found.0 in
@@ -95,10 +92,7 @@ cut n bytes end few e =
       within,
       omega arith,
       λ tail.
-          let rest : List ℕ = drop (end + 1) bytes ++ tail in
-          let whole : bytes ++ tail ≡ take end bytes
-          ++ (get_or bytes end 0 ∷ rest) = ap (λ l. l ++ tail) (sym (take-append-drop end bytes)
-          ∙ ap (λ l. take end bytes ++ l) (at_end bytes end within))
-          ∙ append_assoc (take end bytes) (get_or bytes end 0 ∷ drop (end + 1) bytes) tail in
-          ap parts whole ∙ slice_split_at is_lf (take end bytes) (get_or bytes end 0) rest front at,
+          let whole : take (end + 1) bytes ++ tail ≡ take end bytes ++ (get_or bytes end 0 ∷ tail) =
+          ap (λ l. l ++ tail) (take_more bytes end 0 within) ∙ append_assoc (take end bytes) (get_or bytes end 0 ∷ []) tail in
+          ap parts whole ∙ slice_split_at is_lf (take end bytes) (get_or bytes end 0) tail front at,
     )

@@ -1,5 +1,8 @@
 -- The state of a reader: its place, and what is still to be returned.
-use Rattle.std.specs.Prelude.{◌≡◌, ℕ, ◌+◌, ◌*◌, ◌≤◌, List, [], ◌∷◌, length, None}
+use Rattle.std.specs.Prelude.{◌≡◌, ℕ, ◌+◌, ◌*◌, ◌≤◌, List, [], ◌∷◌, length, Option, None}
+use Rattle.std.specs.Prelude.{option_map}
+use Rattle.stimulus.specs.declared.line_place.LinePlace.{LinePlace}
+use Rattle.stimulus.specs.declared.line_place.LinePlace.TheVariants as counted
 use Rattle.stimulus.specs.declared.parse_line.Line.{Line}
 use Rattle.stimulus.specs.declared.state.State.{State}
 use Rattle.stimulus.specs.declared.state.State.TheVariants as states
@@ -15,6 +18,19 @@ place_of states.Between = Between
 place_of (states.Inside blocks input) = Inside blocks input
 place_of states.Last = Ended
 place_of states.Ended = Ended
+
+-- a place by its numbers of blocks and samples
+abbrev pub counted_of : Place → LinePlace
+counted_of First = counted.First
+counted_of Between = counted.Between
+counted_of (Inside blocks input) = counted.Inside blocks (length input.samples)
+counted_of Ended = counted.Ended
+
+-- the place after a line, wherever the numbers are these; none if the line may not come there
+abbrev pub FollowingIs : Option LinePlace → LinePlace → Line → Type 0
+FollowingIs next at line =
+    (place : Place) → counted_of place ≡ at
+    → next ≡ option_map (λ s. counted_of s.place) (taken place line)
 
 -- the item that a line completed and that is still to be returned
 abbrev pub items_to_give : State → List StimulusItem

@@ -3,9 +3,10 @@
 #![tactic(auto)]
 
 mod decimal;
-mod first_line;
+pub mod first_line;
 mod generated_text;
-mod parse_line;
+mod line_place;
+pub mod parse_line;
 mod parser;
 pub mod slot_reader;
 mod state;
@@ -14,6 +15,7 @@ pub mod stimulus_laws;
 mod wanted;
 
 pub use generated_text::generate_stimulus;
+pub use line_place::LinePlace;
 pub use parser::StimulusParser;
 pub use stimulus_item::{StimulusError, StimulusFault, StimulusItem};
 pub use wanted::Wanted;

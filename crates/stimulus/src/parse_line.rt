@@ -15,7 +15,7 @@ pub enum Line {
 }
 
 /// The first place of a byte.
-pub fn find(byte: u8, bytes: &[u8]) -> Option<usize>
+pub(crate) fn find(byte: u8, bytes: &[u8]) -> Option<usize>
     ensures { result ≡ position (λ b. b == byte) bytes.now }
 {
     bytes.iter().position(|b| *b == byte)

@@ -1,4 +1,6 @@
-use Rattle.std.proofs.Common.{◌≡◌, ℕ, List, ◌+◌, ◌≤◌, length, take, drop, arith, ap, sym, ◌∙◌, subst, refl, length-take, true, false}
+use Rattle.std.proofs.Common.{◌≡◌, ℕ, List, ◌+◌, ◌≤◌, length, take, drop, arith, ap, sym, ◌∙◌, subst, refl, length-take, true, false, ◌++◌}
+use Rattle.std.proofs.Common.{take-append-drop, append_assoc}
+use Rattle.stimulus.specs.Reading.{parts}
 use Rattle.stimulus.specs.Lines.{line_of}
 use Rattle.stimulus.specs.declared.parser.StimulusParser.{StimulusParser}
 use Rattle.stimulus.specs.declared.first_line.FirstLine.TheVariants.{Whole, Open, TooLong}
@@ -21,7 +23,14 @@ whole c = subst (FirstLineIs (Whole c.in-Whole.end)) (rest_is c.args.self.now _ 
 begins : (c : After-parse_line) → Begins c.in-Whole.end c.args.self.now
 begins c =
     let first = whole c in
-    record { short = omega (arith, length-take c.in-Whole.end (left c.args.self.now), first.1); cut = first.2 }
+    let bytes : List ℕ = left c.args.self.now in
+    let n : ℕ = c.in-Whole.end + 1 in
+    record {
+      short = omega (arith, length-take c.in-Whole.end bytes, first.1);
+      cut = λ tail.
+          ap (λ (l : List ℕ). parts (l ++ tail)) (sym (take-append-drop n bytes))
+          ∙ ap parts (append_assoc (take n bytes) (drop n bytes) tail) ∙ first.2 (drop n bytes ++ tail);
+    }
 
 parsed : (c : After-parse_line) → line_of c.args.self.now.events (take c.in-Whole.end (left c.args.self.now)) ≡ c.parse_line.result
 parsed c =
