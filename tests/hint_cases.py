@@ -7,6 +7,8 @@ from enum import Enum
 from typing import Any, Optional, Union
 
 from commands import Case, Outcome
+from det_record import Summary
+from item_lines import report_text
 
 # A record of the filter bank of `demo`, by the tables of docs/FORMATS.md.
 HEADER = bytes.fromhex(
@@ -614,7 +616,7 @@ RECORDS = [
     ),
 ]
 
-SHOWN = b"count 0 0\ngap none\nrefusal none\n"
+SHOWN = report_text(Summary())
 REFUSED = ["write fault", FORCE]
 TERMINALS = [
     case("a record on a terminal", "demo s", 7, REFUSED, files=FILES, out_to=To.TERMINAL),

@@ -1,10 +1,10 @@
-"""The lines of `det show` for the items that tools/det_record.py reads."""
+"""The lines of `det show` for the items that tools/det_record.py reads, and of its reports."""
 
 from __future__ import annotations
 
 from typing import Iterator
 
-from det_record import Init, Item, Run, header_lines
+from det_record import Init, Item, Run, Summary, header_lines
 from record_values import Elements, Finished, Header
 
 
@@ -45,3 +45,19 @@ def without_policies(lines: list[str]) -> Iterator[str]:
     """The lines of a header of format 1, which names neither its format nor policies."""
     for line in lines[1:]:
         yield line.removesuffix(" last") if line.startswith("event ") else line
+
+
+def report_lines(summary: Summary) -> list[str]:
+    """The reports on the cycles of a summary. That of a refusal comes first."""
+    counts = [f"count {summary.cycles - summary.refused} {summary.refused}"]
+    counts.append(f"gap {'none' if summary.gap is None else summary.gap}")
+    if summary.first_refusal is None:
+        return [*counts, "refusal none"]
+    cycle, at = summary.first_refusal
+    first = f"refusal {cycle} {at.phase.word} {at.pass_number} {at.element} {at.code}"
+    return [first, *counts]
+
+
+def report_text(summary: Summary) -> bytes:
+    """The reports as `det show` prints them."""
+    return "".join(f"{line}\n" for line in report_lines(summary)).encode()

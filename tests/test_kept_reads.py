@@ -8,7 +8,9 @@ from pathlib import Path
 import pytest
 
 from commands import TOP, Outcome
+from det_record import Summary
 from failing_bench import FailingBench, Setting, Trials, check_trials
+from item_lines import report_text
 
 # How many bytes a read gives.
 PIECE = 7
@@ -21,14 +23,14 @@ KEEPING = {
     "det replay OUT/bank.rec": 1,
     "det upgrade OUT/old.rec --workers 2": 1,
     "det salvage OUT/cut.rec": 1,
-    "det show OUT/bank.rec": len(b"count 3 0\ngap 10000000\nrefusal none\n"),
+    "det show OUT/bank.rec": len(report_text(Summary(cycles=3, gap=10_000_000))),
     "det show OUT/bank.rec --cycle 2": 0,
 }
 # It ends a record wherever that breaks off, but not at a read that fails.
 SALVAGE = "det salvage"
 
 
-def files_of(command: list[str]) -> List[int]:
+def files_of(command: list[str]) -> list[int]:
     """The places of the files among a command's words."""
     return [place for place, word in enumerate(command) if place and "/" in word]
 

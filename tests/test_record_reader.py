@@ -9,7 +9,7 @@ from typing import Iterator
 import pytest
 
 from det_record import BadRecord, RecordReader, Summary
-from item_lines import item_lines
+from item_lines import item_lines, report_lines
 from record_bench import RecordBench
 from record_bytes import FORMATS, many_runs, mixed_record
 
@@ -27,17 +27,7 @@ def lines_of(stream: io.IOBase) -> tuple[list[str], str]:
             lines += item_lines(item, summary.cycles)
     except BadRecord as fault:
         return lines, f"bad record: copy 0 {fault}\n"
-    return lines + reports(summary), ""
-
-
-def reports(summary: Summary) -> list[str]:
-    counts = [f"count {summary.cycles - summary.refused} {summary.refused}"]
-    counts.append(f"gap {'none' if summary.gap is None else summary.gap}")
-    if summary.first_refusal is None:
-        return [*counts, "refusal none"]
-    cycle, at = summary.first_refusal
-    first = f"refusal {cycle} {at.phase.word} {at.pass_number} {at.element} {at.code}"
-    return [first, *counts]
+    return lines + report_lines(summary), ""
 
 
 def is_same(records: RecordBench, data: bytes) -> bool:
@@ -108,7 +98,7 @@ def test_most_runs(runs: int, records: RecordBench) -> None:
         for _ in summary.read(stream):
             pass
     fault = "" if summary.fault is None else f"bad record: copy 0 {summary.fault}\n"
-    assert (text.decode().splitlines(), line) == ([] if fault else reports(summary), fault)
+    assert (text.decode().splitlines(), line) == ([] if fault else report_lines(summary), fault)
 
 
 @pytest.mark.parametrize("cut", (0, 3))

@@ -12,6 +12,8 @@ from typing import Optional
 
 # Tags that have no end.
 SINGLE = {"meta", "path", "line", "circle", "image", "br"}
+# The first words of the lines of a cycle, after that of its number.
+CYCLE_WORDS = {"sample", "finished", "refused", "element", "output"}
 
 
 @dataclass
@@ -60,10 +62,10 @@ def parse_text(text: str) -> Shown:
             shown.cycles.append(ShownCycle(int(words[1]), time))
         elif not shown.cycles:
             shown.head.append(line)
-        elif words[0] in ("terminate", "count", "gap", "refusal"):
-            shown.tail.append(line)
-        else:
+        elif words[0] in CYCLE_WORDS:
             shown.cycles[-1].see(words)
+        else:
+            shown.tail.append(line)
     return shown
 
 
