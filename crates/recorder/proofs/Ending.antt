@@ -39,7 +39,7 @@ use Rattle.recorder.proofs.Running.{Answered, HasNext, Running, next_run, next-r
 use Rattle.recorder.proofs.KnownText.{recorded}
 
 -- a fact about what was read is one about the whole text where nothing follows
-at_text : (P : List ℕ → Type 0) (read rest : List ℕ) → rest ≡ [] → P read → P (read ++ rest)
+pub at_text : (P : List ℕ → Type 0) (read rest : List ℕ) → rest ≡ [] → P read → P (read ++ rest)
 at_text P read rest none p = subst P (sym (ap (λ l. read ++ l) none ∙ append-nil read)) p
 
 -- a failure that cuts a record off
@@ -57,7 +57,7 @@ unless-cut (Err (Failed OutOfMemory)) fact = tt
 
 module _ {S G E L P : Type 0} (m : Meaning S G E L P) (profile : ProfileValue) where
   -- the record of the first inputs is a prefix of that of every text that goes on
-  record-within : (given : List CycleInput) (read rest : List ℕ) → IsPrefix given (blocks (length profile.events) read)
+  pub record-within : (given : List CycleInput) (read rest : List ℕ) → IsPrefix given (blocks (length profile.events) read)
       → IsPrefix (record_with m profile given false) (record_of m profile (read ++ rest))
   record-within given read rest first =
       record-front m profile given (blocks (length profile.events) (read ++ rest)) _
@@ -112,7 +112,8 @@ module _ {S G E L P : Type 0} (m : Meaning S G E L P) (profile : ProfileValue) w
   shown-given read before after audience last given OutOfMemory cut first taken shows = record
       { inputs = given; first = first; taken = taken; shown = inl shows; whole = tt }
 
-  all-first : (read : List ℕ) (given : List CycleInput) → blocks (length profile.events) read ≡ given
+  -- the inputs of all that was read are its first ones
+  pub all-first : (read : List ℕ) (given : List CycleInput) → blocks (length profile.events) read ≡ given
       → IsPrefix given (blocks (length profile.events) read)
   all-first read given is = subst (λ xs. IsPrefix given xs) (sym is) (prefix-same given)
 
@@ -129,7 +130,8 @@ module _ {S G E L P : Type 0} (m : Meaning S G E L P) (profile : ProfileValue) w
     whole = unless-cut result (subst (λ xs. Shows audience last (runs m profile xs)) (sym is) shows);
   }
 
-  record-is : (text : List ℕ) (given : List CycleInput) (ended : Ending) → blocks (length profile.events) text ≡ given
+  -- the record of a text by its inputs and its end
+  pub record-is : (text : List ℕ) (given : List CycleInput) (ended : Ending) → blocks (length profile.events) text ≡ given
       → ending (length profile.events) text ≡ ended
       → record_of m profile text ≡ record_with m profile given (is_terminated ended)
   record-is text given ended is ends =
