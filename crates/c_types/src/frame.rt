@@ -1,5 +1,9 @@
 //! A frame that was read, as offsets into its bytes; a fault of a record; a place where two differ.
+ghost use Rattle.std.specs.Prelude.{◌≡◌};
+ghost use Rattle.c_types.specs.RecordFaults.{reason_of};
+
 use crate::cycle::{DetRefusal, DetTime};
+use record_grammar::{Reason, RecordFault};
 
 /// A frame. Offsets count from its first byte, its tag, and are 0 for parts that it doesn't have.
 /// The tag is 1 for Register, 2 for Discover, 3 for Init, 4 for Run and 5 for Terminate.
@@ -45,4 +49,34 @@ pub struct DetPlace {
     pub number: u32,
     pub element: u32,
     pub what: u8,
+}
+
+fn reason(number: u8) -> Option<Reason>
+    ensures { result ≡ reason_of number }
+{
+    match number {
+        1 => Some(Reason::Magic),
+        2 => Some(Reason::Version),
+        3 => Some(Reason::Range),
+        4 => Some(Reason::Order),
+        5 => Some(Reason::TooMany),
+        6 => Some(Reason::Truncated),
+        7 => Some(Reason::Trailing),
+        _ => None,
+    }
+}
+
+impl DetRecordFault {
+    ghost use Rattle.c_types.specs.RecordFaults.{record_fault_of};
+
+    /// The fault of the record. None if no reason has the number.
+    pub fn fault(&self) -> Option<RecordFault>
+        ensures { result ≡ record_fault_of self.now }
+    {
+        let reason = reason(self.reason)?;
+        Some(RecordFault {
+            offset: self.offset,
+            reason,
+        })
+    }
 }

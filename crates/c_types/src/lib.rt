@@ -3,15 +3,15 @@
 #![tactic(auto)]
 
 mod cycle;
+mod det_manifest;
 mod frame;
-mod manifest;
 mod profile;
 mod record;
 mod text;
 
 pub use cycle::{DetElement, DetRefusal, DetSample, DetTime};
+pub use det_manifest::{DetManifest, DetManifestFault, DetNeeds};
 pub use frame::{DetFrame, DetPlace, DetRecordFault};
-pub use manifest::{DetManifest, DetManifestFault, DetNeeds};
 pub use profile::{DetEvent, DetHeader, DetProfile};
 pub use record::{DetRecord, format_number};
 pub use text::DetText;
