@@ -7,7 +7,7 @@ use Rattle.manifest.specs.Keys.{keys, needs_keys}
 use Rattle.manifest.specs.Groups.{first_keys, params_keys, events_keys, last_keys}
 use Rattle.manifest.specs.Faults.{first_fault, fault_at}
 use Rattle.manifest.specs.KeyReaders.{IsRead, Agrees}
-use Rattle.manifest.specs.Values.{ManifestValue}
+use Rattle.manifest.specs.Values.{NamedValue}
 use Rattle.manifest.specs.declared.manifest_fault.ManifestError.{ManifestError}
 use Rattle.manifest.specs.declared.manifest_fault.ManifestError.TheVariants.{Fault, OutOfMemory}
 use Rattle.manifest.specs.declared.manifest_fault.ManifestFault.{ManifestFault}
@@ -15,7 +15,7 @@ use Rattle.manifest.specs.declared.key.Key.TheVariants.{Platform, InitNeeds, Ini
 use Rattle.manifest.proofs.Steps.{first_append}
 
 -- a fault if there is one, otherwise the result
-abbrev pub or_fault : Option ManifestFault → Result ManifestValue ManifestFault → Result ManifestValue ManifestFault
+abbrev pub or_fault : Option ManifestFault → Result NamedValue ManifestFault → Result NamedValue ManifestFault
 or_fault fault answer = option_map_or Err fault answer
 
 pub last_fault : (tree : Data) → first_fault tree last_keys
@@ -32,7 +32,7 @@ past : (o : Option ManifestFault) (a more : Option ManifestFault) → a ≡ None
 past o a more none is = rw none is
 
 -- What a tree means: the fault of the first group of keys that has one, or else `rest`.
-module _ (tree : Data) (rest : Result ManifestValue ManifestFault) where
+module _ (tree : Data) (rest : Result NamedValue ManifestFault) where
   groups : first_fault tree (keys tree)
       ≡ option_or (first_fault tree first_keys) (option_or (first_fault tree (params_keys tree))
       (option_or (first_fault tree (events_keys tree)) (first_fault tree last_keys)))
@@ -79,8 +79,8 @@ module _ (tree : Data) (rest : Result ManifestValue ManifestFault) where
 
 -- a result that was read from a group agrees with what the tree means, if that has the group's
 -- fault
-pub agrees-read : {A : Type 0} (e : ManifestError) (fault : Option ManifestFault) (x : A) (meant : Result ManifestValue ManifestFault)
+pub agrees-read : {A : Type 0} (e : ManifestError) (fault : Option ManifestFault) (x : A) (meant : Result NamedValue ManifestFault)
     → IsRead {T = A} (Err e) fault x → ((f : ManifestFault) → fault ≡ Some f → meant ≡ Err f)
-    → Agrees {T = ManifestValue} (Err e) meant
+    → Agrees {T = NamedValue} (Err e) meant
 agrees-read (Fault f) fault x meant read at = at f read
 agrees-read OutOfMemory fault x meant read at = tt

@@ -1,11 +1,10 @@
 -- A document as a value, and bytes that are no text.
-use Rattle.std.proofs.Common.{◌∙◌, nat_le, None, Result, Ok, Err, IfOk, IfErr, ◌≡◌, ◌≤◌, Some, length, subst, le-leb, Bool, true, false}
+use Rattle.std.proofs.Common.{◌∙◌, nat_le, None, Result, Ok, Err, ◌≡◌, ◌≤◌, Some, length, subst, le-leb, Bool, true, false}
 use Rattle.std.proofs.Common.{List, ℕ, String, BTreeMap, Global, IsUtf8, refl}
 use Rattle.std.specs.Str.{is_utf8}
 use Rattle.std.proofs.lemmas.Str.{IsUtf8-from_is_utf8, is_utf8-from_IsUtf8}
-use Rattle.manifest.specs.KeyReaders.{Agrees, IsParsed, IsDocument}
-use Rattle.manifest.specs.Meaning.{manifest_of, document_of, IfFault}
-use Rattle.manifest.specs.Values.{ManifestValue}
+use Rattle.manifest.specs.KeyReaders.{IsParsed, IsDocument}
+use Rattle.manifest.specs.Meaning.{named_manifest_of, document_of, IfFault}
 use Rattle.manifest.specs.declared.manifest_fault.ManifestError.{ManifestError}
 use Rattle.manifest.specs.declared.manifest_fault.ManifestError.TheVariants.{Fault, OutOfMemory}
 use Rattle.manifest.specs.declared.manifest_fault.ManifestFault.{ManifestFault}
@@ -28,18 +27,6 @@ no_text_by false bytes e none = e
 pub no_text : (bytes : List ℕ) → (IsUtf8 bytes → ⊥) → is_utf8 bytes ≡ false
 no_text bytes none = no_text_by (is_utf8 bytes) bytes refl none
 
--- the two sides of a result that agrees
-pub agreed_manifest : (r : Result ManifestValue ManifestError) (tree_manifest meant : Result ManifestValue ManifestFault)
-    → tree_manifest ≡ meant → Agrees r meant → IfOk r (λ m. tree_manifest ≡ Ok m)
-agreed_manifest (Ok m) tree_manifest meant same agreed = same ∙ agreed
-agreed_manifest (Err e) tree_manifest meant same agreed = tt
-
-pub agreed_fault : (r : Result ManifestValue ManifestError) (tree_manifest meant : Result ManifestValue ManifestFault)
-    → tree_manifest ≡ meant → Agrees r meant → IfErr r (λ e. IfFault e (λ f. tree_manifest ≡ Err f))
-agreed_fault (Ok m) tree_manifest meant same agreed = tt
-agreed_fault (Err (Fault f)) tree_manifest meant same agreed = same ∙ agreed
-agreed_fault (Err OutOfMemory) tree_manifest meant same agreed = tt
-
 -- what a text says is what its tree says, or that it has none
 pub told : (r : Result Value ManifestError) (bytes text : List ℕ)
     → length bytes ≤ 65536 → IsUtf8 bytes → text ≡ bytes → IsParsed r (document_of text)
@@ -54,15 +41,15 @@ told (Err OutOfMemory) bytes text few utf8 same parsed = tt
 
 -- bytes that are too many, or no text
 pub too_long : (bytes : List ℕ) → nat_le (length bytes) 65536 ≡ false
-    → (strict : Bool) → manifest_of strict bytes ≡ Err TooLong
+    → (strict : Bool) → named_manifest_of strict bytes ≡ Err TooLong
 too_long bytes long strict = rw long
 
 pub not_text : (bytes : List ℕ) → length bytes ≤ 65536 → is_utf8 bytes ≡ false
-    → (strict : Bool) → manifest_of strict bytes ≡ Err NotToml
+    → (strict : Bool) → named_manifest_of strict bytes ≡ Err NotToml
 not_text bytes few none strict = rw (le-leb (length bytes) 65536 few, none)
 
 -- a result without a document
 pub unread_fault : (e : ManifestError) (bytes : List ℕ) (strict : Bool)
-    → IsDocument (Err e) bytes → IfFault e (λ f. manifest_of strict bytes ≡ Err f)
+    → IsDocument (Err e) bytes → IfFault e (λ f. named_manifest_of strict bytes ≡ Err f)
 unread_fault (Fault f) bytes strict unread = unread strict
 unread_fault OutOfMemory bytes strict unread = tt

@@ -2,7 +2,6 @@
 -- last group.
 use Rattle.std.specs.Prelude.{List, [], ◌∷◌, ◌++◌, map, flat_map, Some, option_map}
 use Rattle.toml.specs.Data.{Data}
-use Rattle.det_values.specs.Jobs.{kind_of_name}
 use Rattle.manifest.specs.Keys.{found, items_of, event_keys, needs_keys}
 use Rattle.manifest.specs.Tree.{number_of, text_of}
 use Rattle.manifest.specs.Meaning.{needs_of}
@@ -27,7 +26,6 @@ last_keys = Platform ∷ (needs_keys InitNeeds InitNeed ++ needs_keys RunNeeds R
 
 abbrev pub work_in : Data → Work
 work_in tree = record {
-  kind = kind_of_name (text_of (found tree Job));
   cycle_time = number_of (found tree CycleTime);
   workers = number_of (found tree Workers);
 }

@@ -4,17 +4,17 @@ ghost use Rattle.toml.specs.View.{view};
 ghost use Rattle.manifest.specs.declared.key.Key.{Key};
 ghost use Rattle.manifest.specs.Keys.{found};
 ghost use Rattle.manifest.specs.KeyReaders.{IsParsed, IsDocument, Agrees};
-ghost use Rattle.manifest.specs.Tree.{count_of};
-ghost use Rattle.manifest.specs.Meaning.{manifest_of, manifest_in, document_of, IfFault};
-ghost use Rattle.manifest.specs.Meaning.{unknown_fault};
+ghost use Rattle.manifest.specs.Tree.{count_of, text_of};
+ghost use Rattle.manifest.specs.Meaning.{named_manifest_of, manifest_of, manifest_in, document_of};
+ghost use Rattle.manifest.specs.Meaning.{IfFault, unknown_fault};
 
 use crate::events::{duplicate_event, read_events};
 use crate::hardware::Hardware;
 use crate::params::read_params;
 use crate::unknown_key::first_unknown;
 use crate::work::Work;
-use crate::{Manifest, ManifestError, ManifestFault};
-use std::alloc::Global;
+use crate::{Manifest, ManifestError, ManifestFault, NamedManifest};
+use std::alloc::{AllocError, Global};
 use toml::Value;
 
 /// The greatest length of a manifest in bytes.
@@ -36,7 +36,20 @@ fn refuse_unknown(tree: &Value, count: usize, strict: bool) -> Result<(), Manife
     }
 }
 
-fn read_tree(alloc: Global, tree: &Value, strict: bool) -> Result<Manifest, ManifestError>
+/// The text of the job's key, or an empty one.
+fn job_name(alloc: Global, tree: &Value) -> Result<String, AllocError>
+    ensures { IfOk result (λ name. name.bytes.items ≡ text_of (found (view tree.now) Key.Job)) }
+{
+    let mut name = String::new(alloc);
+    if let Some(value) = tree.get("job") {
+        if let Some(text) = value.as_str() {
+            name.push_str(text)?;
+        }
+    }
+    Ok(name)
+}
+
+fn read_tree(alloc: Global, tree: &Value, strict: bool) -> Result<NamedManifest, ManifestError>
     ensures { Agrees result (manifest_in strict (view tree.now)) }
 {
     let work = Work::read(tree)?;
@@ -47,19 +60,17 @@ fn read_tree(alloc: Global, tree: &Value, strict: bool) -> Result<Manifest, Mani
     if let Some(number) = duplicate_event(events.as_slice()) {
         return Err(ManifestError::Fault(ManifestFault::DuplicateEvent(number)));
     }
-    match work.kind {
-        None => Err(ManifestError::Fault(ManifestFault::UnknownJob)),
-        Some(kind) => Ok(Manifest {
-            kind,
-            cycle_time: work.cycle_time,
-            workers: work.workers,
-            params,
-            events,
-            platform: hardware.platform,
-            init_needs: hardware.init_needs,
-            run_needs: hardware.run_needs,
-        }),
-    }
+    let job = job_name(alloc, tree)?;
+    Ok(NamedManifest {
+        job,
+        cycle_time: work.cycle_time,
+        workers: work.workers,
+        params,
+        events,
+        platform: hardware.platform,
+        init_needs: hardware.init_needs,
+        run_needs: hardware.run_needs,
+    })
 }
 
 #[tactic(auto, using(crate::proofs::Texts::of_table))]
@@ -87,13 +98,25 @@ fn document(alloc: Global, bytes: &[u8]) -> Result<Value, ManifestError>
     parse(alloc, text)
 }
 
+/// The manifest in a text of at most 65,536 bytes up to the name of its job, or its first fault.
+/// Strictly, an unknown key is a fault.
+pub fn read_named_manifest(
+    alloc: Global,
+    bytes: &[u8],
+    strict: bool,
+) -> Result<NamedManifest, ManifestError>
+    ensures { Agrees result (named_manifest_of strict bytes.now) }
+{
+    let tree = document(alloc, bytes)?;
+    read_tree(alloc, &tree, strict)
+}
+
 /// The manifest in a text of at most 65,536 bytes, or its first fault. Unknown keys are ignored.
 pub fn read_manifest(alloc: Global, bytes: &[u8]) -> Result<Manifest, ManifestError>
     ensures manifest { IfOk result (λ m. manifest_of false bytes.now ≡ Ok m) }
     ensures fault { IfErr result (λ e. IfFault e (λ f. manifest_of false bytes.now ≡ Err f)) }
 {
-    let tree = document(alloc, bytes)?;
-    read_tree(alloc, &tree, false)
+    Ok(read_named_manifest(alloc, bytes, false)?.with_kind()?)
 }
 
 /// The manifest in a text of at most 65,536 bytes, or its first fault. An unknown key is a fault.
@@ -101,6 +124,5 @@ pub fn read_strict_manifest(alloc: Global, bytes: &[u8]) -> Result<Manifest, Man
     ensures manifest { IfOk result (λ m. manifest_of true bytes.now ≡ Ok m) }
     ensures fault { IfErr result (λ e. IfFault e (λ f. manifest_of true bytes.now ≡ Err f)) }
 {
-    let tree = document(alloc, bytes)?;
-    read_tree(alloc, &tree, true)
+    Ok(read_named_manifest(alloc, bytes, true)?.with_kind()?)
 }

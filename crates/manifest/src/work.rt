@@ -9,31 +9,28 @@ ghost use Rattle.manifest.specs.Groups.{first_keys, work_in};
 
 use crate::typed_value::{needed_text, number};
 use crate::{Key, ManifestFault};
-use det_values::JobKind;
 use toml::Value;
 
-/// The work of a client: its job, how often the job runs, and the number of workers.
+/// The work of a client: how often its job runs, and the number of workers.
 #[derive(Drop)]
 pub(crate) struct Work {
-    /// None if no shipped job has the name. That fault is checked last.
-    pub(crate) kind: Option<JobKind>,
     pub(crate) cycle_time: u64,
     pub(crate) workers: u32,
 }
 
 impl Work {
+    /// The job must be a text. Its name is read by `job_name`.
     pub(crate) fn read(tree: &Value) -> Result<Work, ManifestFault>
         ensures judged { IsJudged result (first_fault (view tree.now) first_keys)
             (work_in (view tree.now)) }
         ensures cycle_time { IfOk result (λ work. IsCycleTime work.cycle_time) }
         ensures workers { IfOk result (λ work. IsWorkers work.workers) }
     {
-        let job = needed_text(tree.get("job"), Key::Job)?;
+        needed_text(tree.get("job"), Key::Job)?;
         let time = tree.get("cycle_time_ns");
         let cycle_time = number(time, Key::CycleTime, 1, i64::MAX as u64)?;
         let workers = number(tree.get("workers"), Key::Workers, 1, 64)?;
         Ok(Work {
-            kind: JobKind::from_name(job),
             cycle_time,
             workers: workers as u32,
         })

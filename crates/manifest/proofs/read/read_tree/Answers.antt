@@ -1,11 +1,10 @@
-use Rattle.std.proofs.Common.{◌≡◌, ◌∙◌, ap, sym, Some, None, Ok}
+use Rattle.std.proofs.Common.{◌≡◌, ◌∙◌, ap, sym, None, Ok}
 use Rattle.std.proofs.lemmas.Result.{err_from_is_err_and}
 use Rattle.toml.specs.View.{view}
 use Rattle.manifest.specs.Meaning.{by_names, manifest_in, events_of}
-use Rattle.manifest.specs.declared.work.Work.{Work}
 use Rattle.manifest.specs.Faults.{first_duplicate}
 use Rattle.manifest.proofs.Order.{at_work, at_params, at_events, at_hardware, agrees-read}
-use Rattle.manifest.proofs.Naming.{past_unknown, repeated, with_kind, said_by}
+use Rattle.manifest.proofs.Naming.{past_unknown, repeated, distinct, said_by}
 use Rattle.manifest.proofs.read.read_tree.Goals.{After-as_slice}
 use Rattle.manifest.proofs.read.read_tree.Goals as goal
 
@@ -52,20 +51,10 @@ returns-in-Some c =
     let at = (goal.at.returns-in-Some c).After-as_slice in
     known at ∙ repeated (view c.args.tree.now) c.in-Some.number (named at ∙ sym c.in-Some.ensures)
 
-pub returns-in-None : goal.returns-in-None
-returns-in-None c =
-    let at = (goal.at.returns-in-None c).After-as_slice in
-    known at
-    ∙ with_kind (view c.args.tree.now) None (named at ∙ sym c.in_default.ensures)
-    (ap (λ (w : Work). w.kind) (sym c.in_ok-work.ensures.judged.1) ∙ c.in-None.is)
-
-pub returns-in-Some-kind : goal.returns-in-Some-kind
-returns-in-Some-kind c =
-    let at = (goal.at.returns-in-Some-kind c).After-as_slice in
+pub returns : goal.returns
+returns c =
+    let at = (goal.at.returns c).After-as_slice in
     let tree = view c.args.tree.now in
-    let work = c.in_ok-work.ensures.judged.1 in
-    known at
-    ∙ with_kind tree (Some c.in-Some-kind.kind) (named at ∙ sym c.in_default.ensures)
-    (ap (λ (w : Work). w.kind) (sym work) ∙ c.in-Some-kind.is)
-    ∙ ap Ok (said_by tree c.in-Some-kind.kind c.in_ok-work.work _ _ c.in_ok-hardware.hardware work c.in_ok-params.ensures.1
-    c.in_ok-events.ensures.read.1 c.in_ok-hardware.ensures.judged.1)
+    known at ∙ distinct tree (named at ∙ sym c.in_default.ensures)
+    ∙ ap Ok (said_by tree _ c.in_ok-work.work _ _ c.in_ok-hardware.hardware c.in_ok-job.ensures c.in_ok-work.ensures.judged.1
+    c.in_ok-params.ensures.1 c.in_ok-events.ensures.read.1 c.in_ok-hardware.ensures.judged.1)
