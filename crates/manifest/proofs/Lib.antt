@@ -5,3 +5,4 @@ pub mod Order
 pub mod Naming
 pub mod Texts
 pub mod Unknowns
+pub mod ByJob

@@ -15,7 +15,7 @@ use Rattle.manifest.specs.declared.key.Key.TheVariants.{Platform, InitNeeds, Ini
 use Rattle.manifest.proofs.Steps.{first_append}
 
 -- a fault if there is one, otherwise the result
-abbrev pub or_fault : Option ManifestFault → Result NamedValue ManifestFault → Result NamedValue ManifestFault
+abbrev pub or_fault : {M : Type 0} → Option ManifestFault → Result M ManifestFault → Result M ManifestFault
 or_fault fault answer = option_map_or Err fault answer
 
 pub last_fault : (tree : Data) → first_fault tree last_keys

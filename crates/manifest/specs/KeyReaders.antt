@@ -5,7 +5,7 @@ use Rattle.std.specs.Borrow.{Bor}
 use Rattle.toml.specs.Data.{Data}
 use Rattle.toml.specs.View.{view}
 use Rattle.toml.specs.declared.value.Value.{Value}
-use Rattle.manifest.specs.Meaning.{named_manifest_of, manifest_in, by_job}
+use Rattle.manifest.specs.Meaning.{named_manifest_of, named_in, by_job}
 use Rattle.manifest.specs.Values.{ManifestValue, NamedValue}
 use Rattle.manifest.specs.declared.key.Key.{Key}
 use Rattle.manifest.specs.declared.key.Key.TheVariants.{InitNeeds, InitNeed, RunNeeds, RunNeed}
@@ -79,7 +79,7 @@ Agrees (Err OutOfMemory) meant = Unit {0}
 
 -- the tree is that of a text, to be read strictly or not
 abbrev pub IsDocument : Result Value ManifestError → List ℕ → Type 0
-IsDocument (Ok v) bytes = (strict : Bool) → named_manifest_of strict bytes ≡ manifest_in strict (view v)
+IsDocument (Ok v) bytes = (strict : Bool) → named_manifest_of strict bytes ≡ named_in strict (view v)
 IsDocument (Err (Fault fault)) bytes = (strict : Bool) → named_manifest_of strict bytes ≡ Err fault
 IsDocument (Err OutOfMemory) bytes = Unit {0}
 

@@ -7,6 +7,7 @@ use Rattle.det_values.specs.Jobs.{kind_of_name}
 use Rattle.det_values.specs.Values.{EventSpecValue}
 use Rattle.det_values.specs.declared.event.Policy.{Policy}
 use Rattle.det_values.specs.declared.event.Policy.TheVariants.{Last, Fresh}
+use Rattle.det_values.specs.declared.job_kind.JobKind.{JobKind}
 use Rattle.toml.specs.Data.{Data, table}
 use Rattle.toml.specs.Parse.{parse_document}
 use Rattle.manifest.specs.Tree.{count_of, whole_of, number_of, text_of}
@@ -58,9 +59,53 @@ needs_of tree needs need = option_map (λ _. record {
   speedup = number_of (found tree (need Speedup));
 }) (found tree needs)
 
+-- the content of a tree without a fault, for a job; no platform exactly if its key is absent
+abbrev pub tree_manifest : Data → JobKind → ManifestValue
+tree_manifest tree kind = record {
+  kind = kind;
+  cycle_time = number_of (found tree CycleTime);
+  workers = number_of (found tree Workers);
+  params = params_of tree;
+  events = events_of tree;
+  platform = option_map (λ d. text_of (Some d)) (found tree Platform);
+  init_needs = needs_of tree InitNeeds InitNeed;
+  run_needs = needs_of tree RunNeeds RunNeed;
+}
+
+-- the first repeated name of an event is a fault, and after it an unknown name of the job
+abbrev pub by_names : Data → Result ManifestValue ManifestFault
+by_names tree =
+    option_map_or Err (option_map DuplicateEvent (first_duplicate (events_of tree)))
+    (ok_or (option_map (tree_manifest tree) (kind_of_name (text_of (found tree Job)))) UnknownJob)
+
+-- the first unknown key, if such keys are a fault
+abbrev pub unknown_fault : Bool → Data → Option ManifestFault
+unknown_fault strict tree =
+    if strict then option_map UnknownKey
+    (first_unknown tree (count_of (found tree Event))) else None
+
+-- first the keys of the tables, then unknown keys, then the names
+abbrev pub manifest_in : (strict : Bool) → Data → Result ManifestValue ManifestFault
+manifest_in strict tree =
+    option_map_or Err (first_fault tree (keys tree))
+    (option_map_or Err (unknown_fault strict tree) (by_names tree))
+
+-- the tree of a document, none if the text isn't TOML
+abbrev pub document_of : List ℕ → Option Data
+document_of text = option_map table (parse_document text)
+
+-- the manifest that a text means, or its first fault; strictly, an unknown key is one
+abbrev pub manifest_of : (strict : Bool) → List ℕ → Result ManifestValue ManifestFault
+manifest_of strict bytes =
+    if not (nat_le (length bytes) 65536) then Err TooLong
+    else if is_utf8 bytes then option_map_or (manifest_in strict) (document_of bytes) (Err NotToml)
+    else Err NotToml
+
+-- ---- the same up to the name of the job, which an application knows
+
 -- the content of a tree without a fault; no platform exactly if its key is absent
-abbrev pub tree_manifest : Data → NamedValue
-tree_manifest tree = record {
+abbrev pub named_tree : Data → NamedValue
+named_tree tree = record {
   job = text_of (found tree Job);
   cycle_time = number_of (found tree CycleTime);
   workers = number_of (found tree Workers);
@@ -72,33 +117,21 @@ tree_manifest tree = record {
 }
 
 -- the first repeated name of an event is a fault
-abbrev pub by_names : Data → Result NamedValue ManifestFault
-by_names tree =
+abbrev pub by_event_names : Data → Result NamedValue ManifestFault
+by_event_names tree =
     option_map_or Err (option_map DuplicateEvent (first_duplicate (events_of tree)))
-    (Ok (tree_manifest tree))
-
--- the first unknown key, if such keys are a fault
-abbrev pub unknown_fault : Bool → Data → Option ManifestFault
-unknown_fault strict tree =
-    if strict then option_map UnknownKey
-    (first_unknown tree (count_of (found tree Event))) else None
+    (Ok (named_tree tree))
 
 -- first the keys of the tables, then unknown keys, then the names of the events
-abbrev pub manifest_in : (strict : Bool) → Data → Result NamedValue ManifestFault
-manifest_in strict tree =
+abbrev pub named_in : (strict : Bool) → Data → Result NamedValue ManifestFault
+named_in strict tree =
     option_map_or Err (first_fault tree (keys tree))
-    (option_map_or Err (unknown_fault strict tree) (by_names tree))
+    (option_map_or Err (unknown_fault strict tree) (by_event_names tree))
 
--- the tree of a document, none if the text isn't TOML
-abbrev pub document_of : List ℕ → Option Data
-document_of text = option_map table (parse_document text)
-
--- The manifest that a text means up to the name of its job, or the first fault. Strictly, an
--- unknown key is one.
 abbrev pub named_manifest_of : (strict : Bool) → List ℕ → Result NamedValue ManifestFault
 named_manifest_of strict bytes =
     if not (nat_le (length bytes) 65536) then Err TooLong
-    else if is_utf8 bytes then option_map_or (manifest_in strict) (document_of bytes) (Err NotToml)
+    else if is_utf8 bytes then option_map_or (named_in strict) (document_of bytes) (Err NotToml)
     else Err NotToml
 
 -- last comes the name of the job
@@ -106,9 +139,7 @@ abbrev pub by_job : Result NamedValue ManifestFault → Result ManifestValue Man
 by_job (Ok m) = ok_or (option_map (with_kind m) (kind_of_name m.job)) UnknownJob
 by_job (Err fault) = Err fault
 
--- the manifest that a text means, or its first fault
-abbrev pub manifest_of : (strict : Bool) → List ℕ → Result ManifestValue ManifestFault
-manifest_of strict bytes = by_job (named_manifest_of strict bytes)
+-- ---- want of memory
 
 -- a fact of the fault of an error, and nothing if memory ran out
 abbrev pub IfFault : ManifestError → (ManifestFault → Type 0) → Type 0

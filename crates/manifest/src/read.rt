@@ -5,7 +5,7 @@ ghost use Rattle.manifest.specs.declared.key.Key.{Key};
 ghost use Rattle.manifest.specs.Keys.{found};
 ghost use Rattle.manifest.specs.KeyReaders.{IsParsed, IsDocument, Agrees};
 ghost use Rattle.manifest.specs.Tree.{count_of, text_of};
-ghost use Rattle.manifest.specs.Meaning.{named_manifest_of, manifest_of, manifest_in, document_of};
+ghost use Rattle.manifest.specs.Meaning.{named_manifest_of, manifest_of, named_in, document_of};
 ghost use Rattle.manifest.specs.Meaning.{IfFault, unknown_fault};
 
 use crate::events::{duplicate_event, read_events};
@@ -50,7 +50,7 @@ fn job_name(alloc: Global, tree: &Value) -> Result<String, AllocError>
 }
 
 fn read_tree(alloc: Global, tree: &Value, strict: bool) -> Result<NamedManifest, ManifestError>
-    ensures { Agrees result (manifest_in strict (view tree.now)) }
+    ensures { Agrees result (named_in strict (view tree.now)) }
 {
     let work = Work::read(tree)?;
     let params = read_params(alloc, tree)?;
@@ -112,6 +112,7 @@ pub fn read_named_manifest(
 }
 
 /// The manifest in a text of at most 65,536 bytes, or its first fault. Unknown keys are ignored.
+#[tactic(auto, using(crate::proofs::ByJob::is_by_job))]
 pub fn read_manifest(alloc: Global, bytes: &[u8]) -> Result<Manifest, ManifestError>
     ensures manifest { IfOk result (λ m. manifest_of false bytes.now ≡ Ok m) }
     ensures fault { IfErr result (λ e. IfFault e (λ f. manifest_of false bytes.now ≡ Err f)) }
@@ -120,6 +121,7 @@ pub fn read_manifest(alloc: Global, bytes: &[u8]) -> Result<Manifest, ManifestEr
 }
 
 /// The manifest in a text of at most 65,536 bytes, or its first fault. An unknown key is a fault.
+#[tactic(auto, using(crate::proofs::ByJob::is_by_job))]
 pub fn read_strict_manifest(alloc: Global, bytes: &[u8]) -> Result<Manifest, ManifestError>
     ensures manifest { IfOk result (λ m. manifest_of true bytes.now ≡ Ok m) }
     ensures fault { IfErr result (λ e. IfFault e (λ f. manifest_of true bytes.now ≡ Err f)) }

@@ -1,7 +1,7 @@
 use Rattle.std.proofs.Common.{◌≡◌, ◌∙◌, ap, sym, None, Ok}
 use Rattle.std.proofs.lemmas.Result.{err_from_is_err_and}
 use Rattle.toml.specs.View.{view}
-use Rattle.manifest.specs.Meaning.{by_names, manifest_in, events_of}
+use Rattle.manifest.specs.Meaning.{by_event_names, named_in, events_of}
 use Rattle.manifest.specs.Faults.{first_duplicate}
 use Rattle.manifest.proofs.Order.{at_work, at_params, at_events, at_hardware, agrees-read}
 use Rattle.manifest.proofs.Naming.{past_unknown, repeated, distinct, said_by}
@@ -9,7 +9,7 @@ use Rattle.manifest.proofs.read.read_tree.Goals.{After-as_slice}
 use Rattle.manifest.proofs.read.read_tree.Goals as goal
 
 -- no known key has a fault, and none is unknown
-known : (c : After-as_slice) → manifest_in c.args.strict (view c.args.tree.now) ≡ by_names (view c.args.tree.now)
+known : (c : After-as_slice) → named_in c.args.strict (view c.args.tree.now) ≡ by_event_names (view c.args.tree.now)
 known c = past_unknown (view c.args.tree.now) c.args.strict None c.in_ok-work.ensures.judged.0 c.in_ok-params.ensures.0
     c.in_ok-events.ensures.read.0 c.in_ok-hardware.ensures.judged.0 c.in_ok-refuse_unknown.ensures.fits
 
