@@ -1,4 +1,5 @@
-pub mod Places
+pub mod Putting
 pub mod Written
-pub mod Cycles
 pub mod Whole
+pub mod Fields
+pub mod Running

@@ -1,4 +1,6 @@
-pub mod Stage
-pub mod Spelling
+pub mod Answers
+pub mod Items
+pub mod Puts
 pub mod Parts
+pub mod Runs
 pub mod Statements

@@ -1,17 +1,27 @@
--- The result of a call that writes a part, and what the call changes.
-use Rattle.std.specs.Prelude.{◌≡◌, ◌≢◌, ◌↔◌, ℕ, ◌≤◌, List, [], ◌∷◌, ◌++◌, length, take, drop}
-use Rattle.std.specs.Prelude.{Result, Ok, Err}
+-- A part of a record, what a call that writes it reports, and what it changes.
+use Rattle.std.specs.Prelude.{◌≡◌, ◌≢◌, ℕ, ℤ, ◌≤◌, List, [], ◌∷◌, ◌++◌, length, take, drop}
+use Rattle.std.specs.List.{All}
+use Rattle.det_values.specs.declared.format.Format.{Format}
+use Rattle.det_values.specs.declared.format.Format.TheVariants.{One, Two}
+use Rattle.det_values.specs.declared.event.Policy.TheVariants.{Last}
+use Rattle.det_values.specs.declared.frames.Frame.TheVariants as frames
 use Rattle.record_grammar.specs.declared.place.Place.TheVariants as places
 use Rattle.record_grammar.specs.declared.item.Item.{Item}
 use Rattle.record_grammar.specs.declared.item.Item.TheVariants as items
+use Rattle.record_grammar.specs.Grammar.{policy_of}
 use Rattle.record_grammar.specs.Places.{after, CanFollow}
 use Rattle.record_grammar.specs.Laws.{AreItems, item_spelling, items_spelling}
-use Rattle.record_grammar.specs.Spelling.{CanSpell}
-use Rattle.det_values.specs.declared.format.Format.TheVariants.{Two}
-use Rattle.det_record_c.specs.declared.cause.Cause.{Cause}
-use Rattle.det_record_c.specs.declared.cause.Cause.TheVariants as causes
-use Rattle.det_record_c.specs.declared.det_record.DetRecord.{DetRecord}
-use Rattle.det_record_c.specs.Stage.{place_of}
+use Rattle.record_grammar.specs.Spelling.{IsHeader, IsFrame}
+use Rattle.c_types.specs.declared.profile.DetProfile.{DetProfile}
+use Rattle.c_types.specs.declared.profile.DetEvent.{DetEvent}
+use Rattle.c_types.specs.declared.record.DetRecord.{DetRecord}
+use Rattle.c_types.specs.Places.{format_of, place_of}
+use Rattle.c_types.specs.CValues.{init_of, refused_of}
+use Rattle.c_types.specs.Ranges.{IsSoundHeader, AreSoundElements, IsSoundFinish, IsSoundRefusal}
+use Rattle.det_record_c.specs.Items.{header_in, finished_in}
+use Rattle.det_record_c.specs.Answers.{ReportsCall}
+use Rattle.det_record_c.specs.declared.part.Part.{Part}
+use Rattle.det_record_c.specs.declared.part.Part.TheVariants as parts
 
 -- ---- what is written
 
@@ -30,82 +40,75 @@ pub record CallState : Type 0 where
 abbrev pub call_state : DetRecord → List ℕ → ℕ → CallState
 call_state r out written = record { state = r; out = out; written = written }
 
--- the bytes that a call wrote
-abbrev pub written_bytes : CallState → List ℕ
-written_bytes l = take l.written l.out
+-- these bytes were put at the front of the room, their number is told, and the rest of the room
+-- stays
+pub record PutsFront (bytes old new : List ℕ) (written : ℕ) : Type 0 where
+  pub bytes_are : take written new ≡ bytes
+  pub room : written ≤ length old
+  pub behind : drop written new ≡ drop written old
 
 -- an item was written after those before it, and nothing else changed
 pub record IsAdded (item : Item) (old new : CallState) : Type 0 where
   pub written : (items : List Item) (bytes : List ℕ) → Written old.state items bytes
-      → Written new.state (items ++ item ∷ []) (bytes ++ written_bytes new)
+      → Written new.state (items ++ item ∷ []) (bytes ++ take new.written new.out)
   pub place : place_of new.state ≡ after (place_of old.state) item
-  pub spelling : written_bytes new ≡ item_spelling (place_of old.state) item
-  pub room : new.written ≤ length old.out
-  pub behind : drop new.written new.out ≡ drop new.written old.out
+  pub spelling : PutsFront (item_spelling (place_of old.state) item) old.out new.out new.written
 
 -- ---- the result of a call
 
 abbrev pub Fits : DetRecord → Item → List ℕ → Type 0
 Fits r item out = length (item_spelling (place_of r) item) ≤ length out
 
--- The number of the first of three conditions that isn't met, or that of too little memory. The
--- third condition and memory matter only where the first two are met.
-pub record ReportsFirst (answer : ℕ) (follows sound fits : Type 0) : Type 0 where
-  pub most : answer ≤ 4
-  pub done : answer ≡ 0 → follows × sound × fits
-  pub misplaced : (answer ≡ 1) ↔ (follows → ⊥)
-  pub out_of_range : (answer ≡ 2) ↔ (follows × (sound → ⊥))
-  pub no_room : answer ≡ 3 → follows × sound × (fits → ⊥)
-  pub no_memory : answer ≡ 4 → follows × sound
-
--- the number for an item that may come, whose values are in their ranges and whose bytes fit
-abbrev pub ReportsCause : ℕ → DetRecord → Item → Type 0 → List ℕ → Type 0
-ReportsCause answer r item sound out =
-    ReportsFirst answer (CanFollow (place_of r) item) sound (Fits r item out)
-
 -- what a call returns for an item, and what it changes: the item is added, or nothing is changed
-pub record Reports (answer : ℕ) (item : Item) (sound : Type 0) (old new : CallState) : Type 0 where
-  pub cause : ReportsCause answer old.state item sound old.out
-  pub done : answer ≡ 0 → IsAdded item old new
-  pub kept : answer ≢ 0 → new ≡ old
+abbrev pub Reports : ℕ → Item → Type 0 → CallState → CallState → Type 0
+Reports answer item sound old new =
+    ReportsCall answer (CanFollow (place_of old.state) item) sound (Fits old.state item old.out)
+    (IsAdded item old new) (new ≡ old)
 
--- ---- the same, inside
+-- ---- ranges
 
-abbrev pub answer_of : Result (Unit {0}) Cause → ℕ
-answer_of (Ok u) = 0
-answer_of (Err causes.Misplaced) = 1
-answer_of (Err causes.OutOfRange) = 2
-answer_of (Err causes.NoRoom) = 3
-answer_of (Err causes.NoMemory) = 4
+-- format 1 has no policy but the last samples
+abbrev pub HasPolicies : Format → List DetEvent → Type 0
+HasPolicies One events = All (λ e. policy_of e.policy ≡ Last) events
+HasPolicies Two events = Unit {0}
 
-abbrev pub IsCause : Cause → Type 0 → Type 0 → Type 0 → Type 0
-IsCause causes.Misplaced follows sound fits = follows → ⊥
-IsCause causes.OutOfRange follows sound fits = follows × (sound → ⊥)
-IsCause causes.NoRoom follows sound fits = follows × sound × (fits → ⊥)
-IsCause causes.NoMemory follows sound fits = follows × sound
+pub record IsSoundIn (format : Format) (p : DetProfile) (params : List ℤ) (events : List DetEvent)
+    : Type 0 where
+  pub fields : IsSoundHeader p params events
+  pub policies : HasPolicies format events
 
--- format 2 can spell the item after a header with this number of events
-abbrev pub CanBeSpelled : ℕ → Item → Type 0
-CanBeSpelled events (items.Header p) = p.format ≡ Two
-CanBeSpelled events (items.Frame f) = CanSpell Two events f
+-- ---- parts by their values
 
--- an item that may be written, or why it may not, regardless of the room for it
-abbrev pub IsMade : Result Item Cause → Item → DetRecord → Type 0 → Type 0
-IsMade (Ok made) item r sound =
-    (made ≡ item) × CanFollow (place_of r) item × CanBeSpelled r.events item × sound
-IsMade (Err cause) item r sound = IsCause cause (CanFollow (place_of r) item) sound (Unit {0})
+abbrev pub item_in : DetRecord → Part → Item
+item_in r (parts.Header profile params events) =
+    header_in (format_of r.format) profile.now params.now events.now
+item_in r parts.Register = items.Frame frames.Register
+item_in r parts.Discover = items.Frame frames.Discover
+item_in r (parts.Init elements) = init_of elements.now
+item_in r (parts.Finished time samples elements output) =
+    finished_in (format_of r.format) time.now samples.now elements.now output.now
+item_in r (parts.Refused time samples refusal) = refused_of time.now samples.now refusal.now
+item_in r parts.Terminate = items.Frame frames.Terminate
 
-abbrev pub MayBeWritten : DetRecord → Item → Type 0
-MayBeWritten r item = CanFollow (place_of r) item × CanBeSpelled r.events item
+abbrev pub IsSound : DetRecord → Part → Type 0
+IsSound r (parts.Header profile params events) =
+    IsSoundIn (format_of r.format) profile.now params.now events.now
+IsSound r parts.Register = Unit {0}
+IsSound r parts.Discover = Unit {0}
+IsSound r (parts.Init elements) = AreSoundElements elements.now
+IsSound r (parts.Finished time samples elements output) =
+    IsSoundFinish r.events samples.now elements.now output.now
+IsSound r (parts.Refused time samples refusal) = IsSoundRefusal r.events samples.now refusal.now
+IsSound r parts.Terminate = Unit {0}
 
--- the result of writing an item
-abbrev pub IsPut : Item → Result (Unit {0}) Cause → CallState → CallState → Type 0
-IsPut item (Ok u) old new = IsAdded item old new × Fits old.state item old.out
-IsPut item (Err causes.NoRoom) old new = (new ≡ old) × (Fits old.state item old.out → ⊥)
-IsPut item (Err causes.NoMemory) old new = new ≡ old
-IsPut item (Err cause) old new = ⊥
+-- the spelling of an item in a record of this format, whatever its place
+abbrev pub spelling_in : DetRecord → Item → List ℕ
+spelling_in r item = item_spelling (places.Register (record {
+  format = format_of r.format;
+  events = r.events;
+})) item
 
--- the result of a part, from that of making its item
-abbrev pub Ended : Result Item Cause → Result (Unit {0}) Cause → CallState → CallState → Type 0
-Ended (Ok item) done old new = IsPut item done old new
-Ended (Err cause) done old new = (done ≡ Err cause) × (new ≡ old)
+-- its fields are in their ranges
+abbrev pub HasFields : DetRecord → Item → Type 0
+HasFields r (items.Header p) = IsHeader p
+HasFields r (items.Frame f) = IsFrame (format_of r.format) r.events f

@@ -1,41 +1,45 @@
 //! The exports. Each returns 0 if the part is written, and it is in the first `written` bytes of
-//! `out` then. It returns 1 if the part may not come now, and 2 if a value is out of its range. It
-//! returns 3 for too little room in `out`, and 4 for too little memory. If it isn't 0, nothing is
-//! changed.
+//! `out` then. It returns 1 if the part may not come now, 2 if a value is out of its range, and 3
+//! for too little room in `out`. If it isn't 0, nothing is changed.
 //!
-//! A part is checked as a whole, its place first, before memory is asked for. So a value out of
-//! range is reported whatever memory there is.
-ghost use Rattle.std.specs.Prelude.{[]};
+//! A part is checked as a whole, its place first. Its bytes are counted before one of them is
+//! written.
+ghost use Rattle.std.specs.Prelude.{◌≡◌, ◌↔◌, ◌⊎◌, [], IsTrue, false};
 ghost use Rattle.record_grammar.specs.declared.item.Item.TheVariants as items;
 ghost use Rattle.det_values.specs.declared.frames.Frame.TheVariants as frames;
-ghost use Rattle.c_types.specs.CValues.{header_of, init_of, finished_of, refused_of};
-ghost use Rattle.c_types.specs.Ranges.{IsSoundHeader, AreSoundElements, IsSoundFinish};
-ghost use Rattle.c_types.specs.Ranges.{IsSoundRefusal};
-ghost use Rattle.det_record_c.specs.Parts.{Written, call_state, Reports};
+ghost use Rattle.c_types.specs.CValues.{init_of, refused_of};
+ghost use Rattle.c_types.specs.Places.{format_of};
+ghost use Rattle.c_types.specs.Ranges.{AreSoundElements, IsSoundFinish, IsSoundRefusal};
+ghost use Rattle.det_record_c.specs.Items.{header_in, finished_in};
+ghost use Rattle.det_record_c.specs.Parts.{Written, call_state, Reports, IsSoundIn};
 
-use c_types::{DetElement, DetEvent, DetProfile, DetRefusal, DetSample, DetTime};
-use crate::cause::answer;
-use crate::checked_item;
-use crate::det_record::DetRecord;
-use crate::write_item::write_checked_item;
-use std::alloc::Global;
+use crate::part::Part;
+use crate::write_part::answer_part;
+use c_types::{DetElement, DetEvent, DetProfile, DetRecord, DetRefusal, DetSample, DetTime};
 
-/// Begins a record.
+/// Begins a record in format 1 or 2. False for any other number.
 #[unsafe(no_mangle)]
-pub extern "C" fn det_record_new(state: &mut DetRecord)
-    ensures { Written state.new [] [] }
+pub extern "C" fn det_record_new(state: &mut DetRecord, format: u8) -> bool
+    ensures takes { IsTrue result ↔ ((format ≡ 1) ⊎ (format ≡ 2)) }
+    ensures begins { IsTrue result → Written state.new [] [] }
+    ensures keeps_format { IsTrue result → state.new.format ≡ format }
+    ensures refuses { result ≡ false → state.new ≡ state.old }
 {
+    if format != 1 && format != 2 {
+        return false;
+    }
     *state = DetRecord {
         cycles: 0,
         events: 0,
+        format,
         stage: 0,
     };
+    true
 }
 
-/// Writes the header of a record in format 2.
+/// Writes the header. In format 1 each event has the policy 0.
 #[unsafe(no_mangle)]
 pub extern "C" fn det_record_header(
-    alloc: Global,
     state: &mut DetRecord,
     profile: &DetProfile,
     params: &[i64],
@@ -43,18 +47,22 @@ pub extern "C" fn det_record_header(
     out: &mut [u8],
     written: &mut usize,
 ) -> u8
-    ensures { Reports result (header_of profile.now params.now events.now)
-        (IsSoundHeader profile.now params.now events.now)
+    ensures { Reports result
+        (header_in (format_of state.old.format) profile.now params.now events.now)
+        (IsSoundIn (format_of state.old.format) profile.now params.now events.now)
         (call_state state.old out.old written.old) (call_state state.new out.new written.new) }
 {
-    let made = checked_item::header(alloc, state, profile, params, events);
-    answer(write_checked_item(alloc, state, made, out, written))
+    let part = Part::Header {
+        profile,
+        params,
+        events,
+    };
+    answer_part(state, &part, out, written)
 }
 
 /// Writes the Register frame.
 #[unsafe(no_mangle)]
 pub extern "C" fn det_record_register(
-    alloc: Global,
     state: &mut DetRecord,
     out: &mut [u8],
     written: &mut usize,
@@ -62,14 +70,12 @@ pub extern "C" fn det_record_register(
     ensures { Reports result (items.Frame frames.Register) (Unit {0})
         (call_state state.old out.old written.old) (call_state state.new out.new written.new) }
 {
-    let made = checked_item::register(state);
-    answer(write_checked_item(alloc, state, made, out, written))
+    answer_part(state, &Part::Register, out, written)
 }
 
 /// Writes the Discover frame, that of ServiceDiscovery.
 #[unsafe(no_mangle)]
 pub extern "C" fn det_record_discover(
-    alloc: Global,
     state: &mut DetRecord,
     out: &mut [u8],
     written: &mut usize,
@@ -77,14 +83,12 @@ pub extern "C" fn det_record_discover(
     ensures { Reports result (items.Frame frames.Discover) (Unit {0})
         (call_state state.old out.old written.old) (call_state state.new out.new written.new) }
 {
-    let made = checked_item::discover(state);
-    answer(write_checked_item(alloc, state, made, out, written))
+    answer_part(state, &Part::Discover, out, written)
 }
 
 /// Writes the Init frame with the initial elements. Their draws are ignored.
 #[unsafe(no_mangle)]
 pub extern "C" fn det_record_init(
-    alloc: Global,
     state: &mut DetRecord,
     elements: &[DetElement],
     out: &mut [u8],
@@ -93,14 +97,12 @@ pub extern "C" fn det_record_init(
     ensures { Reports result (init_of elements.now) (AreSoundElements elements.now)
         (call_state state.old out.old written.old) (call_state state.new out.new written.new) }
 {
-    let made = checked_item::init(alloc, state, elements);
-    answer(write_checked_item(alloc, state, made, out, written))
+    answer_part(state, &Part::Init { elements }, out, written)
 }
 
-/// Writes the Run frame of a cycle that finished.
+/// Writes the Run frame of a cycle that finished. In format 1 draws are ignored.
 #[unsafe(no_mangle)]
 pub extern "C" fn det_record_finished(
-    alloc: Global,
     state: &mut DetRecord,
     time: &DetTime,
     samples: &[DetSample],
@@ -109,18 +111,23 @@ pub extern "C" fn det_record_finished(
     out: &mut [u8],
     written: &mut usize,
 ) -> u8
-    ensures { Reports result (finished_of time.now samples.now elements.now output.now)
+    ensures { Reports result
+        (finished_in (format_of state.old.format) time.now samples.now elements.now output.now)
         (IsSoundFinish state.old.events samples.now elements.now output.now)
         (call_state state.old out.old written.old) (call_state state.new out.new written.new) }
 {
-    let made = checked_item::finished(alloc, state, time, samples, elements, output);
-    answer(write_checked_item(alloc, state, made, out, written))
+    let part = Part::Finished {
+        time,
+        samples,
+        elements,
+        output,
+    };
+    answer_part(state, &part, out, written)
 }
 
 /// Writes the Run frame of a cycle that was refused.
 #[unsafe(no_mangle)]
 pub extern "C" fn det_record_refused(
-    alloc: Global,
     state: &mut DetRecord,
     time: &DetTime,
     samples: &[DetSample],
@@ -132,14 +139,17 @@ pub extern "C" fn det_record_refused(
         (IsSoundRefusal state.old.events samples.now refusal.now)
         (call_state state.old out.old written.old) (call_state state.new out.new written.new) }
 {
-    let made = checked_item::refused(alloc, state, time, samples, refusal);
-    answer(write_checked_item(alloc, state, made, out, written))
+    let part = Part::Refused {
+        time,
+        samples,
+        refusal,
+    };
+    answer_part(state, &part, out, written)
 }
 
 /// Writes the Terminate frame, the last one.
 #[unsafe(no_mangle)]
 pub extern "C" fn det_record_terminate(
-    alloc: Global,
     state: &mut DetRecord,
     out: &mut [u8],
     written: &mut usize,
@@ -147,6 +157,5 @@ pub extern "C" fn det_record_terminate(
     ensures { Reports result (items.Frame frames.Terminate) (Unit {0})
         (call_state state.old out.old written.old) (call_state state.new out.new written.new) }
 {
-    let made = checked_item::terminate(state);
-    answer(write_checked_item(alloc, state, made, out, written))
+    answer_part(state, &Part::Terminate, out, written)
 }

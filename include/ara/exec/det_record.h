@@ -7,9 +7,7 @@
  *
  * Memory is the caller's. Each pointer is to live objects, also one to no items; no two pointers of
  * a call overlap; and no call keeps a pointer. While a call runs, no other thread uses what it may
- * change, or changes what it reads. What a call needs for itself it takes and gives back by
- * rattle_alloc, rattle_realloc and rattle_dealloc. No call is made in a signal handler, or in a
- * child that a process with threads forked. */
+ * change, or changes what it reads. No call asks for memory. */
 #ifndef ARA_EXEC_DET_RECORD_H
 #define ARA_EXEC_DET_RECORD_H
 
@@ -28,8 +26,7 @@ enum {
   DET_RECORD_DONE = 0,
   DET_RECORD_MISPLACED = 1,    /* this part may not come now */
   DET_RECORD_OUT_OF_RANGE = 2, /* a value or a count isn't in its range */
-  DET_RECORD_NO_ROOM = 3,      /* the part has more bytes than `out` has room for */
-  DET_RECORD_NO_MEMORY = 4
+  DET_RECORD_NO_ROOM = 3       /* the part has more bytes than `out` has room for */
 };
 
 /* What a record is about. The cycle time is 1 to 2^63 - 1 nanoseconds. */
@@ -76,11 +73,12 @@ typedef struct DetRefusal {
 typedef struct DetRecord {
   uint32_t cycles;
   uint16_t events;
-  uint8_t stage;
+  uint8_t format, stage;
 } DetRecord;
 
-/* A record of which nothing is written yet. */
-void det_record_new(DetRecord *record);
+/* A record of which nothing is written yet, in format 1 or 2. False for any other number, and
+ * nothing is changed. */
+bool det_record_new(DetRecord *record, uint8_t format);
 
 /* The header. At most 16 parameters and 256 events. */
 uint8_t det_record_header(DetRecord *record, const DetProfile *profile, const int64_t *params,
@@ -111,6 +109,25 @@ uint8_t det_record_refused(DetRecord *record, const DetTime *time, const DetSamp
 
 /* The last part. */
 uint8_t det_record_terminate(DetRecord *record, uint8_t *out, size_t room, size_t *written);
+
+/* How far a cycle is written that is written in several calls: the record when the cycle was
+ * opened, and the number of elements to come. It is filled by the calls alone. */
+typedef struct DetRun {
+  DetRecord state;
+  uint32_t left;
+} DetRun;
+
+/* A cycle that finished, without a list of its elements: the bytes of det_run_open, of one
+ * det_run_element for each element and of det_run_close, in order, are those of
+ * det_record_finished. An element too many is misplaced. So is closing while one is missing, or
+ * once the record has moved. The record moves by det_run_close alone. */
+uint8_t det_run_open(DetRun *run, const DetRecord *record, const DetTime *time,
+                     const DetSample *samples, size_t sample_count, uint32_t element_count,
+                     uint8_t *out, size_t room, size_t *written);
+uint8_t det_run_element(DetRun *run, const uint8_t *bytes, size_t count, uint32_t draws,
+                        uint8_t *out, size_t room, size_t *written);
+uint8_t det_run_close(const DetRun *run, DetRecord *record, const uint8_t *output,
+                      size_t output_count, uint8_t *out, size_t room, size_t *written);
 
 #ifdef __cplusplus
 }

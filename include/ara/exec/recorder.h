@@ -68,7 +68,7 @@ struct CycleInput {
 class Recorder {
  public:
   /// The sink has to live as long.
-  explicit Recorder(RecordSink& sink) noexcept : sink_(sink) { det_record_new(&record_); }
+  explicit Recorder(RecordSink& sink) noexcept : sink_(sink) { det_record_new(&record_, 2); }
   Recorder(Recorder const&) = delete;
   Recorder& operator=(Recorder const&) = delete;
 
