@@ -1,0 +1,3 @@
+pub mod Probes
+pub mod Seen
+pub mod Reported
