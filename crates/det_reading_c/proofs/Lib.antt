@@ -1,0 +1,6 @@
+pub mod Numbers
+pub mod Parts
+pub mod Readings
+pub mod Items
+pub mod Samples
+pub mod Elements
