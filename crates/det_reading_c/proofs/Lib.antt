@@ -4,3 +4,4 @@ pub mod Readings
 pub mod Items
 pub mod Samples
 pub mod Elements
+pub mod Written

@@ -5,3 +5,4 @@ pub mod Headers
 pub mod Frames
 pub mod Answers
 pub mod Parts
+pub mod Statements

@@ -9,3 +9,6 @@ mod frame_struct;
 mod header;
 mod number;
 mod reading;
+pub mod reading_c_laws;
+#[cfg(test)]
+mod tests;
