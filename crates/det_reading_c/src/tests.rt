@@ -1,0 +1,102 @@
+use c_types::*;
+use crate::export::*;
+use crate::frame_parts::*;
+use crate::reading::*;
+use std::test::*;
+
+/// A record. The header has version 2, job 7, seed 258, cycle time 10,000,000, the parameters 4 and
+/// -1, and the event `x` of capacity 2 with policy fresh: 51 bytes. Register and Discover come next,
+/// then Init with the elements 10 11 and no bytes: 11 bytes. The cycle has the time 3 and the sample
+/// -2 of event 0. It finished with the same elements, which drew 5 and 256 random numbers, and with
+/// the output 9: 48 bytes. Terminate is the last byte.
+static RECORD: [u8; 113] = [
+    0x44, 0x45, 0x54, 0x52, 0x45, 0x43, 0, 2, 0, 7, 0, 0, 0, 0, 0, 0, 1, 2, 0, 0, 0, 0, 0, 0x98,
+    0x96, 0x80, 0, 2, 0, 0, 0, 0, 0, 0, 0, 4, 0xff, 0xff, 0xff, 0xff, 0xff, 0xff, 0xff, 0xff, 0, 1,
+    0, 2, 1, 0x78, 1, 1, 2, 3, 0, 0, 0, 2, 0, 2, 10, 11, 0, 0, 4, 1, 0, 0, 0, 0, 0, 0, 0, 3, 0, 0,
+    0, 1, 0, 0, 0xff, 0xff, 0xff, 0xff, 0xff, 0xff, 0xff, 0xfe, 0, 0, 0, 0, 2, 0, 2, 10, 11, 0, 0,
+    0, 5, 0, 0, 0, 0, 1, 0, 0, 0, 0, 1, 9, 5,
+];
+
+fn no_time() -> DetTime {
+    DetTime {
+        time: 0,
+        known: false,
+    }
+}
+
+fn no_frame() -> DetFrame {
+    let refusal = DetRefusal {
+        element: 0,
+        code: 0,
+        phase: 0,
+        pass: 0,
+    };
+    DetFrame {
+        length: 0,
+        samples: 0,
+        elements: 0,
+        output: 0,
+        time: no_time(),
+        refusal,
+        sample_count: 0,
+        element_count: 0,
+        output_count: 0,
+        tag: 0,
+        refused: false,
+        has_draws: false,
+    }
+}
+
+/// A reading of a record in format 2 with one event, in this stage, at the first byte.
+fn in_stage(stage: u8) -> DetReading {
+    let record = DetRecord {
+        cycles: 0,
+        events: 1,
+        format: 2,
+        stage,
+    };
+    let scan = DetScan {
+        read: 0,
+        samples_at: 0,
+        outcome_at: 0,
+        elements_at: 0,
+        time: no_time(),
+        samples: 0,
+        elements: 0,
+        left: 0,
+        part: 0,
+    };
+    DetReading {
+        offset: 64,
+        record,
+        scan,
+    }
+}
+
+/// The Run frame of the record, of which the first 45 bytes come first.
+fn read_run(reading: &mut DetReading, fault: &mut DetRecordFault) -> Result<DetFrame, Fail> {
+    let run = RECORD.get(64..).ok_or("record")?;
+    let first = run.get(..45).ok_or("run")?;
+    let mut frame = no_frame();
+    if det_reading_frame(reading, first, &mut frame, fault) != 1 {
+        return Err("wants no more".into());
+    }
+    if det_reading_frame(reading, run, &mut frame, fault) != 0 {
+        return Err("not whole".into());
+    }
+    Ok(frame)
+}
+
+#[test]
+fn a_run_in_two_pieces(rt: HostRuntime) -> Result<(), Fail> {
+    let mut reading = in_stage(4);
+    let mut fault = DetRecordFault {
+        offset: 0,
+        reason: 0,
+    };
+    let frame = read_run(&mut reading, &mut fault)?;
+    let places = (frame.samples, frame.elements, frame.output, frame.length);
+    assert_eq!(rt; places, (14, 29, 47, 48));
+    assert_eq!(rt; (reading.offset, reading.record.cycles), (112, 1));
+    Ok(())
+}
