@@ -11,7 +11,14 @@ from commands import Outcome, run
 from small_repository import NOT_BUILT, SmallRepository
 
 EXPORT = '#[unsafe(no_mangle)]\npub extern "C" fn {}(x: &mut u8) -> u8\n'
-CRATES = ("det_client_c", "det_record_c", "det_reading_c", "det_stimulus_c", "det_manifest_c", "det_verdict_c")
+CRATES = (
+    "det_client_c",
+    "det_record_c",
+    "det_reading_c",
+    "det_stimulus_c",
+    "det_manifest_c",
+    "det_verdict_c",
+)
 HOST = "x86_64-unknown-linux-gnu"
 ARM = "aarch64-unknown-linux-gnu"
 COMPILED_LINE = (

@@ -30,7 +30,14 @@ from pathlib import Path
 from compile import NoModule, compile_library, run_logged
 from crate_list import CRATES, LIST, TOP, listed_crates, needed_by, newest_source, time_of_change
 
-EXPORTING = ("det_client_c", "det_record_c", "det_reading_c", "det_stimulus_c", "det_manifest_c", "det_verdict_c")
+EXPORTING = (
+    "det_client_c",
+    "det_record_c",
+    "det_reading_c",
+    "det_stimulus_c",
+    "det_manifest_c",
+    "det_verdict_c",
+)
 HOST, ARM = "x86_64-unknown-linux-gnu", "aarch64-unknown-linux-gnu"
 HEAP = TOP / "cpp" / "rattle_heap.c"
 OUT = TOP / "out" / "lib"

@@ -1,14 +1,14 @@
 -- The end of a stimulus, after the bytes that were taken.
-use Rattle.std.proofs.Common.{◌≡◌, ℕ, ◌+◌, ◌<◌, ◌≤◌, List, [], ◌∷◌, ◌++◌, length, true, false, cond, Option, Some, None, refl, sym, ap}
+use Rattle.std.proofs.Common.{◌≡◌, ℕ, ◌+◌, List, [], ◌∷◌, ◌++◌, length, true, false, cond, Option, Some, None, refl, sym, ap}
 use Rattle.std.proofs.Common.{◌∙◌, arith, append-nil, length-append}
 use Rattle.std.specs.List.{onto_first}
 use Rattle.stimulus.specs.declared.line_place.LinePlace.TheVariants as places
 use Rattle.stimulus.specs.Places.{Place, Ended, Step}
-use Rattle.stimulus.specs.Reading.{Reading, Terminated, BadLine, reading, reading_from, parts, after, bad_at_once, at_end, text_step}
+use Rattle.stimulus.specs.Reading.{Reading, Terminated, BadLine, reading_from, parts, after}
 use Rattle.stimulus.specs.Reading.{go_on, good_lines, ending, ending_of}
 use Rattle.stimulus.specs.States.{counted_of}
 use Rattle.stimulus.proofs.Parts.{is_lf, some_parts}
-use Rattle.stimulus.proofs.Going.{at_open, open_missing, ended_whole}
+use Rattle.stimulus.proofs.Going.{at_open, open_missing}
 use Rattle.det_stimulus_c.specs.declared.det_stimulus.DetStimulus.{DetStimulus}
 use Rattle.det_stimulus_c.specs.Taken.{HasTaken, place_of}
 use Rattle.det_stimulus_c.proofs.Steps.{head_is}

@@ -1,15 +1,13 @@
 -- What a step finds after the bytes that were taken.
-use Rattle.std.proofs.Common.{◌≡◌, ℕ, ◌+◌, ◌<◌, ◌≤◌, ◌-◌, List, [], ◌∷◌, ◌++◌, length, take, drop, true, false, Option, Some, None, refl, sym, ap}
+use Rattle.std.proofs.Common.{◌≡◌, ℕ, ◌+◌, ◌<◌, ◌≤◌, ◌-◌, List, [], ◌∷◌, ◌++◌, length, take, drop, true, false, Some, None, sym, ap}
 use Rattle.std.proofs.Common.{◌∙◌, arith, append_assoc, append-nil, length-append, length-take, subst, take-append-drop}
-use Rattle.std.specs.Prelude.{option_and_then}
 use Rattle.stimulus.specs.declared.parse_line.Line.{Line}
-use Rattle.stimulus.specs.declared.line_place.LinePlace.{LinePlace}
 use Rattle.stimulus.specs.declared.line_place.LinePlace.TheVariants as places
 use Rattle.stimulus.specs.declared.first_line.FirstLine.TheVariants.{Whole, Open, TooLong}
 use Rattle.stimulus.specs.FirstLine.{FirstLineIs, IsLong}
 use Rattle.stimulus.specs.Lines.{line_of}
-use Rattle.stimulus.specs.Places.{Place, Ended, Step, step, taken}
-use Rattle.stimulus.specs.Reading.{Reading, reading, reading_from, parts, after, bad_at_once, at_end, text_step, good_lines, has_bad}
+use Rattle.stimulus.specs.Places.{Place, Ended, step, taken}
+use Rattle.stimulus.specs.Reading.{Reading, reading, reading_from, parts, after, bad_at_once, at_end, text_step, good_lines}
 use Rattle.stimulus.specs.States.{counted_of, FollowingIs}
 use Rattle.stimulus.proofs.Going.{after_after, goes_on, is_bad, is_long, is_past, taken_there, none_there, at_open, open_line, open_fed}
 use Rattle.det_stimulus_c.specs.declared.det_stimulus.DetStimulus.{DetStimulus}

@@ -1,7 +1,7 @@
-use c_types::{DetSample, DetTime};
 use crate::det_stimulus::DetStimulus;
 use crate::export::*;
 use crate::found::DetStimulusStep;
+use c_types::{DetSample, DetTime};
 use std::test::*;
 
 /// A stimulus for two events, line by line: the first line has 7 bytes, `cycle 5` has 8, `sample 1
@@ -78,8 +78,14 @@ fn a_bad_line_is_bad_again(rt: HostRuntime) {
     let mut stimulus = begun(2);
     let mut step = no_step();
     let mut line = 0;
-    assert_eq!(rt; det_stimulus_step(&mut stimulus, b"cycle 5\n", &mut step), 5);
-    assert_eq!(rt; det_stimulus_step(&mut stimulus, b"cycle 5\n", &mut step), 5);
+    assert_eq!(rt;
+        det_stimulus_step(&mut stimulus, b"cycle 5\n", &mut step),
+        5
+    );
+    assert_eq!(rt;
+        det_stimulus_step(&mut stimulus, b"cycle 5\n", &mut step),
+        5
+    );
     assert_eq!(rt; (stimulus.lines, step.taken), (0, 0));
     assert!(rt; !det_stimulus_end(&stimulus, 8, &mut line));
     assert_eq!(rt; line, 1);
