@@ -10,9 +10,10 @@ import pytest
 from commands import NAMES, TOP, Bench, Outcome, Programs, run
 
 PREFIX = "/opt/of det"
-OWN_FOLDERS = ("share/det", "share/doc/det", "include/ara")
+OWN_FOLDERS = ("share/det", "share/doc/det", "include/det", "lib/cmake/deterministic_client")
 OTHER = "share/man/man1/other.1"
 LIBRARY = "lib/libdeterministic_client.a"
+ENDS = ("", "-version")
 
 
 def run_installer(programs: Programs, folder: Path, *words: str, umask: int = 0o022) -> Outcome:
@@ -27,9 +28,9 @@ def files_of_package() -> list[str]:
     found = [f"bin/{it}" for it in NAMES] + [f"share/man/man1/{it}.1" for it in NAMES]
     documents = ("README.md", "docs/FORMATS.md", "examples/bank.toml")
     found += [f"share/doc/det/{it}" for it in documents]
-    headers = [path.name for path in (TOP / "include/ara/exec").glob("*.h")]
     found += [LIBRARY, "lib/pkgconfig/deterministic_client.pc"]
-    found += [f"include/ara/exec/{it}" for it in headers]
+    found += [f"lib/cmake/deterministic_client/deterministic_client-config{it}.cmake" for it in ENDS]
+    found += [str(path.relative_to(TOP)) for path in (TOP / "include").rglob("*.h")]
     return found + ["bin/det_record", "bin/det_view"]
 
 
@@ -64,6 +65,31 @@ def test_install_and_uninstall(bench: Bench, library: Path) -> None:
     assert not second.status, str(second)
     assert [str(it.relative_to(root)) for it in root.rglob("*") if it.is_file()] == [OTHER]
     assert [it for it in OWN_FOLDERS if (root / it).exists()] == []
+
+
+def test_folders(bench: Bench, library: Path) -> None:
+    """LIBDIR, INCLUDEDIR and MANDIR move their files, and nothing is left of them."""
+    root = Path(str(bench.folder) + PREFIX)
+    words = ["--libdir", "lib/of machine", "--includedir", f"{PREFIX}/inc", "--mandir", "man"]
+    archive = str(library)
+    first = run_installer(bench.programs, bench.folder, "--only-library", archive, *words)
+    assert not first.status, str(first)
+    assert (root / "lib/of machine/libdeterministic_client.a").read_bytes() == library.read_bytes()
+    assert (root / "inc/det/exec/version.h").is_file() and not (root / "bin").exists()
+    text = (root / "lib/of machine/pkgconfig/deterministic_client.pc").read_text()
+    assert "prefix=${pcfiledir}/../../..\n" in text and "includedir=${prefix}/inc\n" in text
+    second = run_installer(bench.programs, bench.folder, "--uninstall")
+    assert not second.status, str(second)
+    assert [it for it in root.rglob("*") if it.is_file()] == []
+    assert not (root / "inc/det").exists() and not (root / "lib/of machine/cmake/det").exists()
+
+
+@pytest.mark.parametrize("folder_word", ("--libdir", "--includedir", "--mandir"))
+def test_folder_outside(folder_word: str, programs: Programs, folder: Path) -> None:
+    """A folder that isn't below the prefix is refused."""
+    for name in ("/usr/lib", "..", "."):
+        given = run_installer(programs, folder, folder_word, name)
+        assert given.status == 1 and b"isn't below" in given.err, str(given)
 
 
 def test_missing_program(programs: Programs, folder: Path) -> None:

@@ -1,5 +1,5 @@
-// The job `cloud` of det (docs/FORMATS.md) as an application's job, with two passes and an element of
-// three numbers. Its records are those of `det record`, byte for byte:
+// The job `cloud` of det (docs/FORMATS.md) as an application's job, with two passes and an element
+// of three numbers. Its records are those of `det record`, byte for byte:
 //
 //     cloud record ../cloud.toml ../cloud.stim > cloud.rec
 #include <algorithm>

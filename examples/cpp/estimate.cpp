@@ -3,12 +3,13 @@
 //
 //     g++ -ffp-contract=off ..       estimate record estimate.toml estimate.stim > estimate.rec
 //
-// - Only +, -, *, / and sqrt are used. They are rounded exactly; sin or exp differ by the C library.
-// - Sums are in the order of the elements, in the sequential end and not in the pass.
-// - Neither -ffast-math nor contraction to fused operations. Both change results.
-// - The rounding mode and small numbers are as IEEE has them. A library that was linked with
-//   -ffast-math changes that at its start.
-// - The record holds the bits of a number, so it tells apart what == doesn't.
+// - Only +, -, *, / and sqrt are used. Their results are exact to the last bit; those of sin or exp
+//   depend on the C library.
+// - Sums are made in the order of the elements, after the pass and not in it.
+// - The compiler neither gets -ffast-math nor fuses a product and a sum.
+// - Rounding and small numbers are as IEEE has them. A library that was linked with -ffast-math can
+//   change that when it is loaded.
+// - The record holds the bits of a number, so it also distinguishes 0 and -0.
 #include <cfenv>
 #include <cfloat>
 #include <cmath>

@@ -1,5 +1,5 @@
-// An application with a loop of its own over the client and the recorder, as a ported one has it. It
-// runs live, and in the lab over a record, which it checks meanwhile:
+// An application with a loop of its own over the client and the recorder, as a ported one has it.
+// It runs live, and in the lab over a record, which it checks meanwhile:
 //
 //     own_loop record > drive.rec           own_loop check drive.rec
 #include <cstdio>

@@ -1,5 +1,5 @@
-// A tracker: a thousand guesses follow a distance that a sensor measures, each with a random step. A
-// negative distance is noise, and the cycle is refused.
+// A tracker: a thousand guesses follow a distance that a sensor measures, each with a random step.
+// A negative distance is noise, and the cycle is refused.
 //
 //     tracker record tracker.toml tracker.stim > tracker.rec      tracker check tracker.rec
 //     tracker live tracker.toml > drive.rec                       tracker replay drive.rec

@@ -1,7 +1,7 @@
 // The blocks of a container.
 #include <cstdint>
 
-#include "ara/exec/det_client.h"
+#include "det/exec/det_client.h"
 #include "check.h"
 
 namespace {

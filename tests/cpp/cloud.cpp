@@ -1,4 +1,4 @@
-// The job `cloud` (docs/FORMATS.md) written as an application. Its record is to be the one that
+// The job `cloud` (docs/FORMATS.md) written as an application with a loop of its own. Its record is to be the one that
 // `det record` writes, byte for byte.
 //
 //     cloud STIMULUS SEED WORKERS COUNT SPREAD RESEED FAR
@@ -6,10 +6,10 @@
 #include <cstdlib>
 #include <optional>
 
-#include "ara/exec/spelling.h"
+#include "det/exec/spelling.h"
 #include "stimulus.h"
 
-using namespace ara::exec;
+using namespace det::exec;
 
 namespace {
 
@@ -129,7 +129,7 @@ class Cloud final : public Application {
     });
   }
 
-  std::vector<DetElement> Spelled(std::vector<std::uint32_t> const& draws) const {
+  std::vector<DetElement> Spelled(Span<std::uint32_t const> draws) const {
     std::vector<DetElement> elements(particles_.size());
     for (std::size_t i = 0; i < elements.size(); ++i) {
       Particle const& particle = particles_[i];

@@ -1,4 +1,4 @@
-// The job `guard` (docs/FORMATS.md) written as an application, which refuses cycles in its pass.
+// The job `guard` (docs/FORMATS.md) written as an application with a loop of its own, which refuses cycles in its pass.
 // Its record is to be the one that `det record` writes, byte for byte.
 //
 //     guard STIMULUS SEED WORKERS CHANNELS LOW HIGH LIMIT MOST
@@ -7,10 +7,10 @@
 #include <limits>
 #include <optional>
 
-#include "ara/exec/spelling.h"
+#include "det/exec/spelling.h"
 #include "stimulus.h"
 
-using namespace ara::exec;
+using namespace det::exec;
 
 namespace {
 

@@ -7,7 +7,7 @@
 #include "reference.h"
 #include "script.h"
 
-using namespace ara::exec;
+using namespace det::exec;
 
 namespace {
 

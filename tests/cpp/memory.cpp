@@ -4,8 +4,8 @@
 #include <cstring>
 #include <new>
 
-#include "ara/exec/recorder.h"
-#include "ara/exec/spelling.h"
+#include "det/exec/recorder.h"
+#include "det/exec/spelling.h"
 #include "check.h"
 #include "script.h"
 
@@ -57,7 +57,7 @@ void operator delete(void* block, std::size_t) noexcept { std::free(block); }
 void operator delete[](void* block) noexcept { std::free(block); }
 void operator delete[](void* block, std::size_t) noexcept { std::free(block); }
 
-using namespace ara::exec;
+using namespace det::exec;
 
 namespace {
 
@@ -110,7 +110,7 @@ constexpr std::size_t kCount = 300;
 std::uint64_t elements[kCount];
 DetElement spelled[kCount];
 
-void Spell(std::vector<std::uint32_t> const& draws) {
+void Spell(Span<std::uint32_t const> draws) {
   for (std::size_t i = 0; i < kCount; ++i) {
     spelled[i] = DetElement{};
     Spelling(spelled[i]).U64(elements[i]);
@@ -200,7 +200,7 @@ long Requests() {
 
 void OneRefused() {
   long const count = Requests();
-  CHECK(count > 30);
+  CHECK(count > 5);
   for (long k = 0; k < count; ++k) {
     Ended const ended = RunWith(k, false, tried);
     CHECK(ended.whole && ended.wanting == 1 && SameRecord());

@@ -30,7 +30,7 @@ extern "C" int pthread_create(pthread_t* thread, pthread_attr_t const* attribute
   return create(thread, attributes, start, argument);
 }
 
-using namespace ara::exec;
+using namespace det::exec;
 
 namespace {
 

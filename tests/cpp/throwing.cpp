@@ -10,7 +10,7 @@
 #include "reference.h"
 #include "script.h"
 
-using namespace ara::exec;
+using namespace det::exec;
 
 namespace {
 
@@ -142,6 +142,7 @@ void TheContainer() {
   struct Broken {
     std::size_t size() const { return 3; }
     std::uint64_t* begin() { throw std::logic_error("broken"); }
+    std::uint64_t* end() { return nullptr; }
   } broken;
   Script script({});
   DeterministicClient client = ClientInCycle(script, 2);

@@ -3,12 +3,12 @@
 #include <deque>
 #include <vector>
 
-#include "ara/exec/event_window.h"
+#include "det/exec/event_window.h"
 #include "answers.h"
 #include "check.h"
 #include "reference.h"
 
-using namespace ara::exec;
+using namespace det::exec;
 
 namespace {
 
@@ -68,7 +68,8 @@ struct Model {
 
 void ManyRounds() {
   reference::SplitMix64 chosen{1};
-  for (std::uint16_t capacity : {1, 2, 3, 7, 64, 1023, 1024}) {
+  constexpr std::uint16_t kCapacities[] = {1, 2, 3, 7, 64, 1023, 1024};
+  for (std::uint16_t capacity : kCapacities) {
     for (WindowPolicy policy : {WindowPolicy::kLast, WindowPolicy::kFresh}) {
       EventWindow window = Made(capacity, policy);
       Model model{capacity, policy, {}, {}};

@@ -1,5 +1,5 @@
 // The random words of the C surface, against the published generators.
-#include "ara/exec/det_client.h"
+#include "det/exec/det_client.h"
 #include "check.h"
 #include "reference.h"
 

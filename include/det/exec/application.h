@@ -105,7 +105,7 @@ class HelpWriter {
 
   void WriteOptions(CommandRow const& row) noexcept {
     if (row.has_seed) Write("\n  --seed N       the seed of the random numbers; 0 by default");
-    if (row.has_workers) Write("\n  --workers W    1 to 64 threads; the output is the same for each");
+    if (row.has_workers) Write("\n  --workers W    1 to 64 threads; each number gives the same");
     if (row.has_strict) Write("\n  --strict       refuse a manifest with an unknown key");
     if (row.writes_record) Write("\n  --force        last; write even to a terminal");
     Write("\n");
@@ -163,8 +163,8 @@ Outcome RunArguments(int count, char const* const* arguments,
 }  // namespace internal
 
 /// Runs the command that the arguments of `main` name, and returns the exit status. `Live` is the
-/// source of the command `live`; it is made of the manifest's cycle time in nanoseconds. The process
-/// ignores SIGPIPE from here on. Memory is taken, and given back at the end.
+/// source of the command `live`; it is made of the manifest's cycle time in nanoseconds. The
+/// process ignores SIGPIPE from here on. Memory is taken, and given back at the end.
 template <typename J, typename Live = NoLive>
 int Main(int count, char const* const* arguments, ProgramOptions const& options = {}) noexcept {
   ::signal(SIGPIPE, SIG_IGN);

@@ -115,8 +115,8 @@ uint32_t det_block_count(uint32_t len);
 /* Makes an empty window. False if the capacity isn't 1 to 1,024 or the policy isn't 0 or 1. */
 bool det_window_new(DetWindow *window, uint16_t capacity, uint8_t policy);
 
-/* A sample arrives; it is shown after the next turn. False if it isn't -10^12 to 10^12, or if window
- * and places don't fit. */
+/* A sample arrives, and is shown after the next turn. False if it isn't -10^12 to 10^12, or if
+ * window and places don't fit. */
 bool det_window_arrive(DetWindow *window, int64_t *places, size_t count, int64_t value);
 
 /* A cycle ends. From now on the window shows what policy and capacity select. False if window and

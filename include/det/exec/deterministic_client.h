@@ -1,5 +1,5 @@
-// det::exec::DeterministicClient: a process that runs cycle by cycle. Its results depend only on its
-// inputs and its seed, for every number of worker threads.
+// det::exec::DeterministicClient: a process that runs cycle by cycle. Its results depend only on
+// its inputs and its seed, for every number of worker threads.
 #ifndef DET_EXEC_DETERMINISTIC_CLIENT_H
 #define DET_EXEC_DETERMINISTIC_CLIENT_H
 
@@ -34,8 +34,8 @@ enum class ActivationReturnType : std::uint32_t {
   kTerminate = 4
 };
 
-/// What the platform gives an activation: whether the process has to stop, and the time of the cycle
-/// in nanoseconds if it is known.
+/// What the platform gives an activation: whether the process has to stop, and the time of the
+/// cycle in nanoseconds if it is known.
 struct Activation {
   bool stop = false;
   std::optional<std::uint64_t> time;
@@ -106,8 +106,8 @@ class DeterministicClient {
 
   /// Takes the memory for passes over at most `elements` elements. Afterwards no call of the client
   /// takes memory for a container of that many. Without it a pass takes memory if its container is
-  /// the longest so far. `random_access` is false for a container without random access, which needs
-  /// 8 bytes more for each element.
+  /// the longest so far. `random_access` is false for a container without random access, which
+  /// needs 8 bytes more for each element.
   Result<void> Reserve(std::size_t elements, bool random_access = true) noexcept {
     if (elements > kMostElements) return DeterministicErrc::kTooManyElements;
     if (!draws_.Grow(elements)) return DeterministicErrc::kNoMemory;
@@ -115,9 +115,9 @@ class DeterministicClient {
     return {};
   }
 
-  /// Waits for the next activation, and returns what to do: register services, discover services and
-  /// initialize once each, then cycles, at most 1,000,000, until the source stops the process. After
-  /// an error the client is at the activation before.
+  /// Waits for the next activation, and returns what to do: register services, discover services
+  /// and initialize once each, then cycles, at most 1,000,000, until the source stops the process.
+  /// After an error the client is at the activation before.
   Result<ActivationReturnType> WaitForActivation() noexcept {
     Activation next;
     DET_EXEC_TRY { next = source_->Next(); }
@@ -164,8 +164,8 @@ class DeterministicClient {
   /// The least element that refused in the last pass, if one did.
   std::optional<PassRefusal> Refused() const noexcept { return refused_; }
 
-  /// The next random number of the client's own stream, which begins again with kInit, kRun and each
-  /// seed.
+  /// The next random number of the client's own stream, which begins again with kInit, kRun and
+  /// each seed.
   std::uint64_t GetRandom() noexcept { return det_client_random(&client_); }
 
   /// Sets the seed of all later random numbers.

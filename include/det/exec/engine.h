@@ -51,7 +51,8 @@ class Engine final : private ActivationSource {
   Engine(Engine const&) = delete;
   Engine& operator=(Engine const&) = delete;
 
-  /// Runs the first three activations. Writes Header, Register, Discover and Init. It is called once.
+  /// Runs the first three activations. Writes Header, Register, Discover and Init. It is called
+  /// once.
   Result<void> Open(DetHeader const& header, EngineOptions const& options) noexcept {
     Result<void> done = MakeClient(header, options);
     if (done) done = MakeWindows(header);

@@ -1,5 +1,5 @@
-// The job of an application: what it does at its initialization and in a cycle. The engine does what
-// is around it: activations, windows, refused cycles, records.
+// The job of an application: what it does at its initialization and in a cycle. The engine does
+// what is around it: activations, windows, refused cycles, records.
 #ifndef DET_EXEC_JOB_H
 #define DET_EXEC_JOB_H
 
@@ -165,8 +165,8 @@ class Start : public Stage<J> {
         BoundedBytes& output) noexcept
       : Stage<J>(client, elements, state), output_(&output) {}
 
-  /// Makes the job's elements, at most 65,536, each with this value. It is called at most once; their
-  /// number stays the same for the whole run.
+  /// Makes the job's elements, at most 65,536, each with this value. It is called at most once;
+  /// their number stays the same for the whole run.
   Span<Element> Resize(std::size_t count, Element const& each = Element{}) noexcept {
     if (count > DeterministicClient::kMostElements) {
       this->Fail(DeterministicErrc::kTooManyElements);

@@ -16,15 +16,15 @@
 namespace det::exec {
 inline namespace DET_EXEC_ABI {
 
-/// An exit status of `det`, or 70 for a fault of the job, with its line and hints. It owns its text,
-/// at most 1,024 bytes; more is cut off. Nothing takes memory.
+/// An exit status of `det`, or 70 for a fault of the job, with its line and hints. It owns its
+/// text, at most 1,024 bytes; more is cut off. Nothing takes memory.
 class Outcome {
  public:
   /// Done, without a text.
   Outcome() noexcept = default;
 
-  /// A status that has one line, which the proved code writes: bad words, read fault, write fault or
-  /// out of memory. Any other has no text.
+  /// A status that has one line, which the proved code writes: bad words, read fault, write fault
+  /// or out of memory. Any other has no text.
   static Outcome OfStatus(std::uint8_t status) noexcept {
     return Of(status, [status](DetText& text) { det_text_status(status, &text); });
   }
@@ -45,15 +45,16 @@ class Outcome {
     return outcome.Add("  ").AddExcerpt(name).Add(": ").Add(std::strerror(error)).Add("\n");
   }
 
-  /// A standard output that can't be written. There is no hint if the other end of a pipe is closed.
+  /// A standard output that can't be written. There is no hint if the other end of a pipe is
+  /// closed.
   static Outcome WriteFault(int error) noexcept {
     Outcome outcome = OfStatus(DET_STATUS_WRITE_FAULT);
     if (error == 0 || error == EPIPE) return outcome;
     return outcome.Add("  ").Add(std::strerror(error)).Add("\n");
   }
 
-  /// The end of a run by an error of the engine in a cycle. Its line is this repository's own: `det`
-  /// has no such status.
+  /// The end of a run by an error of the engine in a cycle. Its line is this repository's own:
+  /// `det` has no such status.
   static Outcome JobFault(std::uint32_t cycle, DeterministicError error) noexcept {
     if (error.code == DeterministicErrc::kNoMemory) return OfStatus(DET_STATUS_OUT_OF_MEMORY);
     if (error.code == DeterministicErrc::kWriteFailed) return OfStatus(DET_STATUS_WRITE_FAULT);

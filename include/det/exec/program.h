@@ -27,8 +27,8 @@ inline namespace DET_EXEC_ABI {
 struct ProgramOptions {
   char const* version = "0";
   ThreadOptions threads;
-  /// The bytes of a live run's record that may wait for a thread that writes them. With 0 each cycle
-  /// writes its own part.
+  /// The bytes of a live run's record that may wait for a thread that writes them. With 0 each
+  /// cycle writes its own part.
   std::size_t waiting_bytes = 0;
   int out = STDOUT_FILENO;
   int err = STDERR_FILENO;

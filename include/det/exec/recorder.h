@@ -159,8 +159,9 @@ class Recorder {
   }
 
  private:
-  /// The bytes of a finished cycle besides those of samples, elements and output: its tag, its time,
-  /// the outcome and three counts. Then those of a sample, and of an element's length and draws.
+  /// The bytes of a finished cycle besides those of samples, elements and output: its tag, its
+  /// time, the outcome and three counts. Then those of a sample, and of an element's length and
+  /// draws.
   static constexpr std::size_t kFixedBytes = 23, kSampleBytes = 10, kElementHead = 6;
   static constexpr std::size_t kMostRoom =
       kFixedBytes + 4096 * kSampleBytes + 65536 * (kElementHead + 64) + 1048576;

@@ -58,9 +58,9 @@ class WorkerThread {
   /// The element's number in the container, from 0.
   std::uint32_t Element() const noexcept { return element_; }
 
-  /// The element refuses the cycle for a reason of the application; its first code counts. The other
-  /// elements are still run. If several refuse, the least one is reported, so the number of workers
-  /// changes nothing.
+  /// The element refuses the cycle for a reason of the application; its first code counts. The
+  /// other elements are still run. If several refuse, the least one is reported, so the number of
+  /// workers changes nothing.
   void Refuse(std::uint32_t code) noexcept {
     if (refused_) return;
     refused_ = true;
