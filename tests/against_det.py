@@ -1,6 +1,6 @@
-"""Applications over det::exec beside `det`, on random files: good ones, and nine tenths broken ones.
+"""Applications over det::exec beside `det`, on random files, nine tenths of them broken.
 
-    python3 tests/against_det.py --runs 50000 [--seed N]     builds what is needed, and says what differs
+    python3 tests/against_det.py --runs 50000 [--seed N]     says what differs
 
 A run gives both programs the same arguments. Status, standard output and the first line of standard
 error have to be the same. Files of a run that differs are kept.
@@ -180,7 +180,7 @@ class Against:
             self.apart.append(f"{job} {arguments}: det {wanted}; given {given}; see {kept}")
 
     def arguments(self, choose: random.Random) -> list[Argument]:
-        """The arguments of a command, some of which are none."""
+        """The arguments of a command, or some that are no command."""
         files = {"record": ["m.toml", "s.stim"], "needs": ["m.toml"]}
         command = choose.choice(["record", "replay", "check", "needs"])
         made: list[Argument] = [*files.get(command, ["r.rec"])]

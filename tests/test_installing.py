@@ -13,7 +13,6 @@ PREFIX = "/opt/of det"
 OWN_FOLDERS = ("share/det", "share/doc/det", "include/det", "lib/cmake/deterministic_client")
 OTHER = "share/man/man1/other.1"
 LIBRARY = "lib/libdeterministic_client.a"
-ENDS = ("", "-version")
 
 
 def run_installer(programs: Programs, folder: Path, *words: str, umask: int = 0o022) -> Outcome:
@@ -29,7 +28,8 @@ def files_of_package() -> list[str]:
     documents = ("README.md", "docs/FORMATS.md", "examples/bank.toml")
     found += [f"share/doc/det/{it}" for it in documents]
     found += [LIBRARY, "lib/pkgconfig/deterministic_client.pc"]
-    found += [f"lib/cmake/deterministic_client/deterministic_client-config{it}.cmake" for it in ENDS]
+    package = "lib/cmake/deterministic_client/deterministic_client-config"
+    found += [f"{package}.cmake", f"{package}-version.cmake"]
     found += [str(path.relative_to(TOP)) for path in (TOP / "include").rglob("*.h")]
     return found + ["bin/det_record", "bin/det_view"]
 
@@ -54,7 +54,8 @@ def test_install_and_uninstall(bench: Bench, library: Path) -> None:
     """Installed files have their modes and run; removed, they and their own folders are gone."""
     assert library.is_file()
     root = Path(str(bench.folder) + PREFIX)
-    first = run_installer(bench.programs, bench.folder, "--version", "0.1.0", umask=0o077)
+    words = ["--version", "0.1.0", "--library", str(library)]
+    first = run_installer(bench.programs, bench.folder, *words, umask=0o077)
     assert not first.status, str(first)
     assert not wrong_modes(root)
     assert [it for it in files_of_package() if not (root / it).is_file()] == []
@@ -71,8 +72,8 @@ def test_folders(bench: Bench, library: Path) -> None:
     """LIBDIR, INCLUDEDIR and MANDIR move their files, and nothing is left of them."""
     root = Path(str(bench.folder) + PREFIX)
     words = ["--libdir", "lib/of machine", "--includedir", f"{PREFIX}/inc", "--mandir", "man"]
-    archive = str(library)
-    first = run_installer(bench.programs, bench.folder, "--only-library", archive, *words)
+    words += ["--only-library", "--library", str(library)]
+    first = run_installer(bench.programs, bench.folder, *words)
     assert not first.status, str(first)
     assert (root / "lib/of machine/libdeterministic_client.a").read_bytes() == library.read_bytes()
     assert (root / "inc/det/exec/version.h").is_file() and not (root / "bin").exists()

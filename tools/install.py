@@ -5,7 +5,7 @@
     python3 tools/install.py --uninstall --prefix /usr/local         what `make uninstall` does
     .. --destdir FOLDER                                              below that folder
     .. --libdir lib/x86_64-linux-gnu --includedir .. --mandir ..     folders below the prefix
-    .. --only-library ARCHIVE                                        no programs and no documents
+    .. --only-library --library ARCHIVE                              as for another target
 
 It builds nothing, and copies nothing if a file is missing: `make` makes them all. What was
 installed is listed in PREFIX/share/det/installed, by which it is removed. The library's files for
@@ -171,12 +171,10 @@ def library(places: Places, version: str, archive: str) -> list[Copy]:
 def all_copies(given: argparse.Namespace, places: Places) -> list[Copy]:
     """Everything, with the list of it as the last file. In the list, a line that ends with a slash
     is a folder of its own."""
-    if given.only_library:
-        copies = library(places, given.version, str(given.only_library.resolve()))
-    else:
-        copies = [*programs(given.programs), *manuals(places)]
-        copies += library(places, given.version, LIBRARY)
-        copies += [*tools(given.prefix), *documents()]
+    archive = str(given.library.resolve()) if given.library else LIBRARY
+    copies = library(places, given.version, archive)
+    if not given.only_library:
+        copies += [*programs(given.programs), *manuals(places), *tools(given.prefix), *documents()]
     listed = [it.to for it in copies] + [f"{it}/" for it in places.own_folders()]
     return [*copies, Copy(LISTED, "".join(f"{it}\n" for it in listed).encode())]
 
@@ -237,9 +235,8 @@ def main() -> int:
     parser.add_argument("--libdir", default="lib", help="for the library, below the prefix")
     parser.add_argument("--includedir", default="include", help="for the headers")
     parser.add_argument("--mandir", default="share/man", help="for the manual pages")
-    parser.add_argument(
-        "--only-library", type=Path, metavar="ARCHIVE", help="this archive, as for another target"
-    )
+    parser.add_argument("--library", type=Path, help="another build of the library")
+    parser.add_argument("--only-library", action="store_true", help="no programs, no documents")
     parser.add_argument("--uninstall", action="store_true")
     given = parser.parse_args()
     if not given.prefix.startswith("/"):
@@ -251,7 +248,7 @@ def main() -> int:
         else:
             copies = all_copies(given, places_of(given))
             install(root, copies)
-            what = given.only_library or kinds(given.programs)
+            what = "the library" if given.only_library else kinds(given.programs)
             print(f"installed {len(copies)} files below {root}: {what}")
     except (Refused, OSError) as why:
         print(f"install: {why}", file=sys.stderr)

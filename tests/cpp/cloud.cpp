@@ -1,5 +1,5 @@
-// The job `cloud` (docs/FORMATS.md) written as an application with a loop of its own. Its record is to be the one that
-// `det record` writes, byte for byte.
+// The job `cloud` (docs/FORMATS.md) as an application with a loop of its own. Its record is to be the
+// one that `det record` writes, byte for byte.
 //
 //     cloud STIMULUS SEED WORKERS COUNT SPREAD RESEED FAR
 #include <algorithm>
@@ -108,7 +108,7 @@ class Cloud final : public Application {
   }
 
  private:
-  /// The passes of a cycle. False where the nearest particle is too far away behind them.
+  /// The passes of a cycle. False if the nearest particle is too far away after them.
   bool Moved(DeterministicClient& client) {
     if (params_.reseed != 0 && client.Cycle() % params_.reseed == 0) {
       client.SetRandomSeed(client.GetRandom());

@@ -91,8 +91,8 @@ struct Ran {
   }
 };
 
-/// Runs the job over these samples, one a cycle. Parts 0 to 3 are the header, Register, Discover and
-/// Init; part 4 is the first cycle, which sees no sample.
+/// Runs the job over these samples, one a cycle. Parts 0 to 3 are the header, Register, Discover
+/// and Init; part 4 is the first cycle, which sees no sample.
 void Run(std::vector<std::int64_t> const& samples, std::uint32_t workers, Ran& ran) {
   DetEvent const events[] = {EventOf("does", 1, WindowPolicy::kFresh)};
   Engine<Scripted> engine(Scripted(), ran.sink);

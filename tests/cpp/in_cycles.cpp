@@ -1,7 +1,7 @@
-// Counts requests for memory while a job runs, by functions that stand in for those of the C library.
+// Counts requests for memory while a job runs, by functions in place of those of the C library.
 //
-//     in_cycles live WORKERS ELEMENTS CYCLES   ends with 1 if a cycle after kInit took memory
-//     in_cycles files SHORT LONG               the same for check and replay of two records of a job
+//     in_cycles live WORKERS ELEMENTS CYCLES   ends with 1 if a cycle takes memory
+//     in_cycles files SHORT LONG               the same for check and replay of two records
 //     in_cycles refused WORDS ..               a command with each request refused in turn
 #include <atomic>
 #include <cerrno>

@@ -13,13 +13,13 @@ namespace {
 
 /// Requests that are granted before one is refused, or before all are; none where it is negative.
 long granted = -1;
-bool all_behind = false;
+bool all_after = false;
 long requests = 0;
 
 bool Refused() {
   ++requests;
   if (granted < 0) return false;
-  return all_behind ? requests > granted : requests == granted + 1;
+  return all_after ? requests > granted : requests == granted + 1;
 }
 
 void* Taken(std::size_t size) { return Refused() ? nullptr : std::malloc(size); }
@@ -184,9 +184,9 @@ bool SameRecord() {
 }
 
 /// Runs with the requests as given, and answers how it ended.
-Ended RunWith(long grants, bool behind, Fixed& sink) {
+Ended RunWith(long grants, bool all, Fixed& sink) {
   granted = grants;
-  all_behind = behind;
+  all_after = all;
   requests = 0;
   Ended const ended = Run(sink);
   granted = -1;
@@ -207,7 +207,7 @@ void OneRefused() {
   }
 }
 
-void AllBehindRefused() {
+void AllLaterRefused() {
   long const count = Requests();
   for (long k = 0; k < count; ++k) {
     Ended const ended = RunWith(k, true, tried);
@@ -222,6 +222,6 @@ void AllBehindRefused() {
 
 int main() {
   check::Test("memory: one request refused, and the call made again", OneRefused);
-  check::Test("memory: all requests refused from one on", AllBehindRefused);
+  check::Test("memory: all requests refused from one on", AllLaterRefused);
   return check::Status();
 }

@@ -31,8 +31,7 @@ class Stir final : public WorkerRunnable<std::uint64_t> {
   }
 };
 
-/// The elements and their draws behind passes of cycle 1, by one loop over the published
-/// generators.
+/// The elements and their draws after passes of cycle 1, by one loop over the published generators.
 struct Wanted {
   std::vector<std::uint64_t> elements;
   std::vector<std::uint32_t> draws;

@@ -204,7 +204,7 @@ void TheGreatestPart() {
         1 + 9 + 4 + 4096 * 10 + 1 + 4 + 65536 * 70 + 4 + 1048576 + 1);
 }
 
-/// Takes so many writes, and fails then.
+/// Takes this many writes, then fails.
 class Full final : public RecordSink {
  public:
   explicit Full(int most) : left_(most) {}

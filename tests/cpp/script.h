@@ -8,7 +8,7 @@
 
 #include "det/exec/deterministic_client.h"
 
-/// Plays these activations, and stops behind them.
+/// Plays these activations, then stops.
 class Script final : public det::exec::ActivationSource {
  public:
   explicit Script(std::vector<det::exec::Activation> given) : given_(std::move(given)) {}

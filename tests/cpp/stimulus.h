@@ -13,7 +13,7 @@
 #include "det/exec/deterministic_client.h"
 #include "det/exec/recorder.h"
 
-/// Plays the blocks of a stimulus, and stops behind them.
+/// Plays the blocks of a stimulus, then stops.
 class Stimulus final : public det::exec::ActivationSource {
  public:
   explicit Stimulus(char const* path) {

@@ -1,5 +1,5 @@
-// Every call that reads, over random structs and bytes: it returns, and touches only what it was given.
-// A sanitizer sees the rest. Flags hold true or false, as in any call of C.
+// Every call that reads, over random structs and bytes: it returns, and touches only what it was
+// given. A sanitizer sees the rest. Flags hold true or false, as in any call of C.
 #include <cstring>
 #include <memory>
 #include <random>

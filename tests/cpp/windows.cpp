@@ -52,7 +52,7 @@ void AWindowOfFreshOnes() {
   CHECK(Shows(window, {}));
 }
 
-/// What a window shows behind all rounds so far, by the words of docs/FORMATS.md.
+/// What a window shows after all rounds so far, by the words of docs/FORMATS.md.
 struct Model {
   std::size_t capacity;
   WindowPolicy policy;

@@ -126,7 +126,7 @@ class ArgumentReader {
     if (count_ == 0) return Stop("a command is missing", nullptr);
     if (ReadHelp(read)) return true;
     row_ = internal::RowOf(arguments_[0], has_live_);
-    if (row_ == nullptr) return StopAt(0);
+    if (row_ == nullptr) return StopAt(PlaceAfterHelp());
     read.command = row_->command;
     read.is_forced = row_->writes_record && internal::IsText(arguments_[count_ - 1], "--force");
     if (read.is_forced) --count_;
@@ -185,6 +185,20 @@ class ArgumentReader {
                                                        : nullptr;
     if (row != nullptr) read.page = row->word;
     return row != nullptr;
+  }
+
+  /// The first argument that is no part of help or of the version.
+  int PlaceAfterHelp() const noexcept {
+    using internal::IsText;
+    char const* const first = arguments_[0];
+    bool const is_pair =
+        count_ == 2 && (IsText(first, "help") || IsText(arguments_[1], "--help"));
+    bool const is_help = is_pair && (IsText(first, "help") || IsText(first, "-h"));
+    if (is_help || IsText(first, "--help")) {
+      return internal::RowOf(arguments_[1], has_live_) != nullptr ? 2 : 1;
+    }
+    bool const is_version = is_pair && (IsText(first, "version") || IsText(first, "-V"));
+    return is_version || IsText(first, "--version") ? 1 : 0;
   }
 
   bool ReadArgument(int& at, Arguments& read, std::size_t& names) noexcept {

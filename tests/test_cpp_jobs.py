@@ -1,0 +1,188 @@
+"""An application's own job has the commands of `det`: examples/cpp, with files and live.
+
+They need g++.
+"""
+
+from __future__ import annotations
+
+from pathlib import Path
+
+import pytest
+
+from against_det import JOBS, Against
+from commands import TOP, difference
+from cpp_bench import EXAMPLES, CppBench
+
+WORKERS = (1, 4, 16)
+SEED = 5
+# How many runs there are for each of these seeds.
+RUNS, SEEDS = 1000, range(1, 6)
+
+
+def files(name: str, folder: Path = TOP / "examples") -> tuple[Path, Path]:
+    return folder / f"{name}.toml", folder / f"{name}.stim"
+
+
+@pytest.mark.slow
+@pytest.mark.parametrize("job", JOBS)
+def test_same_record(job: str, cpp: CppBench) -> None:
+    """`record` writes det's bytes, and `replay` writes them again, for each number of workers."""
+    program = cpp.example_program(job)
+    words = ["record", *files(job), "--seed", SEED]
+    expected = cpp.output_of([cpp.det, *words])
+    record = cpp.file(f"{job}.rec", expected)
+    for workers in WORKERS:
+        given = cpp.output_of([program, *words, "--workers", workers])
+        assert given == expected, f"on {workers} workers: {difference(expected, given)}"
+        again = cpp.output_of([program, "replay", record, "--workers", workers])
+        assert again == expected, f"replay on {workers}: {difference(expected, again)}"
+
+
+@pytest.mark.slow
+@pytest.mark.parametrize("job", JOBS)
+def test_same_verdict(job: str, cpp: CppBench) -> None:
+    """`check` finds a record genuine, and finds det's place of a changed byte."""
+    program = cpp.example_program(job)
+    record = cpp.output_of([cpp.det, "record", *files(job), "--seed", SEED])
+    changed = [record]
+    for at in range(60, len(record), len(record) // 20):
+        changed.append(record[:at] + bytes([record[at] ^ 1]) + record[at + 1 :])
+    for number, data in enumerate(changed):
+        file = cpp.file("changed.rec", data)
+        wanted = cpp.command([cpp.det, "check", file])
+        given = cpp.command([program, "check", file, "--workers", WORKERS[number % 3]])
+        assert given.is_like(wanted), f"copy {number}: {given}, not {wanted}"
+
+
+@pytest.mark.slow
+@pytest.mark.parametrize("seed", SEEDS)
+def test_random_files(seed: int, cpp: CppBench) -> None:
+    """Over random files, good and broken, `cloud` and `guard` end as det does."""
+    for job in JOBS:
+        link = cpp.folder / job
+        if not link.exists():
+            link.symlink_to(cpp.example_program(job))
+    work = cpp.folder / f"against{seed}"
+    work.mkdir()
+    against = Against(Path(cpp.det), cpp.folder, work, seed)
+    against.run(RUNS)
+    assert not against.apart, "\n".join(against.apart)
+    statuses = {status for _, status in against.seen}
+    assert statuses >= {0, 1, 2, 3, 4, 5}, f"the files are too tame: {against.seen}"
+
+
+BAD_WORDS = ([], ["nosuch"], ["record"], ["record", "a"], ["record", "a", "b", "c"])
+BAD_WORDS += (["record", "a", "b", "--seed"], ["record", "a", "b", "--workers", "65"])
+BAD_WORDS += (["check", "a", "--seed", "1"], ["replay", "a", "--workers=2"], ["needs", "-x"])
+BAD_WORDS += (["needs", "a", "--strict", "--strict"], ["check", "a\x01" + "b" * 70, "c"])
+BAD_WORDS += (["record", "a", "b", "--force", "x"], ["--help", "nosuch"], ["check", b"\xff\xc3"])
+BAD_WORDS += (["--version", "a"], ["-h", "a"], ["help", "a", "b"], ["-V", "--help"])
+BAD_WORDS += (["--help", "record", "a"], ["record", "--help", "a"], ["-h", "--help"])
+
+
+@pytest.mark.parametrize("words", BAD_WORDS, ids=repr)
+def test_hints_on_words(words: list[str], cpp: CppBench) -> None:
+    """Bad words have det's line and its hints, with the program's own name."""
+    program = cpp.example_program("cloud")
+    wanted, given = (cpp.command([it, *words]) for it in (cpp.det, program))
+    assert given.err == wanted.err.replace(b"see det", b"see cloud"), f"{given.err!r}"
+    assert (given.status, given.out) == (2, b"")
+
+
+def test_hints_on_files(cpp: CppBench) -> None:
+    """Files that can't be read, a bad parameter and another job have det's hints."""
+    program = cpp.example_program("cloud")
+    text = files("cloud")[0].read_text()
+    bad = cpp.file("bad.toml", text.replace("params = [", "params = [0, "))
+    record = cpp.output_of([cpp.det, "record", *files("cloud")])
+    odd = cpp.file("odd.rec", record[:8] + b"\xff\xff" + record[10:])
+    for words in (["needs", "nosuch"], ["needs", bad], ["check", odd], ["check", "/"]):
+        wanted, given = (cpp.command([it, *words]) for it in (cpp.det, program))
+        assert wanted.status and given == wanted, f"{words}: {given.err!r}, not {wanted.err!r}"
+    other = cpp.file("other.toml", text.replace('"cloud"', '"other"'))
+    given = cpp.command([program, "needs", other])
+    assert given.err == b"bad manifest: unknown job\n  job: cloud\n"
+
+
+def test_help(cpp: CppBench) -> None:
+    """Each command has a page; `live` is one only where the program has a source."""
+    tracker, cloud = (cpp.example_program(it) for it in ("tracker", "cloud"))
+    pages = cpp.output_of([tracker, "--help"]).decode()
+    for command in ("record", "replay", "check", "needs", "live"):
+        assert f"tracker {command} " in pages
+        page = cpp.output_of([tracker, command, "--help"])
+        assert page.startswith(f"tracker {command} ".encode())
+        assert page == cpp.output_of([tracker, "help", command])
+    assert b"live" not in cpp.output_of([cloud, "-h"])
+    assert cpp.command([cloud, "live", "a"]).status == 2
+    assert cpp.output_of([tracker, "--version"]) == b"tracker 0\n"
+
+
+def test_full_disk(cpp: CppBench) -> None:
+    """An output that can't be written is a write fault, with det's hint."""
+    program = cpp.example_program("cloud")
+    for words in (["record", *files("cloud")], ["needs", files("cloud")[0]], ["--help"]):
+        line = ["sh", "-c", '"$0" "$@" > /dev/full']
+        wanted, given = (cpp.command([*line, it, *words]) for it in (cpp.det, program))
+        assert given == wanted and given.status == 7, f"{words}: {given.err!r}"
+
+
+def test_copies(cpp: CppBench) -> None:
+    """det_lane runs three copies of an application, and finds the mistake in `buggy`."""
+    lane = cpp.programs.path("det_lane")
+    manifest, stimulus = files("tracker", EXAMPLES)
+    words = [lane, cpp.example_program("tracker"), 3, manifest, stimulus]
+    assert cpp.output_of(words) == b"agree 5\n"
+    words = [lane, cpp.example_program("buggy"), 3, *files("buggy", EXAMPLES)]
+    found = [cpp.command(words) for _ in range(20)]
+    assert any(it.status == 1 and it.out.startswith(b"differ copy ") for it in found)
+
+
+def test_live(cpp: CppBench) -> None:
+    """A live drive is genuine in the lab, and is replayed byte for byte."""
+    program = cpp.example_program("tracker")
+    manifest = files("tracker", EXAMPLES)[0]
+    drive = cpp.output_of([program, "live", manifest, "--seed", SEED, "--workers", 4])
+    record = cpp.file("drive.rec", drive)
+    assert cpp.output_of([program, "check", record]).startswith(b"genuine 50\n")
+    assert cpp.output_of([program, "replay", record, "--workers", 16]) == drive
+    assert b"job 77\n" in cpp.output_of([cpp.det, "show", record])
+
+
+def test_own_loop(cpp: CppBench) -> None:
+    """An application with a loop of its own records, and checks its record in the lab."""
+    program = cpp.example_program("own_loop")
+    drive = cpp.output_of([program, "record"])
+    record = cpp.file("own.rec", drive)
+    assert cpp.output_of([program, "check", record]) == b"genuine\n"
+    changed = cpp.file("changed.rec", drive[:-20] + bytes([drive[-20] ^ 1]) + drive[-19:])
+    given = cpp.command([program, "check", changed])
+    assert given.status == 1 and given.out.startswith(b"departs "), str(given)
+    broken = cpp.file("broken.rec", drive[:-1])
+    assert cpp.command([program, "check", broken]).status in (1, 5)
+
+
+def test_floating_point(cpp: CppBench) -> None:
+    """`estimate` computes the same bits for each number of workers."""
+    program = cpp.example_program("estimate")
+    words = [program, "record", *files("estimate", EXAMPLES), "--workers"]
+    records = {cpp.output_of([*words, workers]) for workers in WORKERS}
+    assert len(records) == 1
+    record = cpp.file("estimate.rec", records.pop())
+    assert cpp.output_of([program, "check", record, "--workers", 3]).startswith(b"genuine 5\n")
+
+
+def test_job_fault(cpp: CppBench) -> None:
+    """An exception of the job ends the run with status 70 and a line, before that cycle's frame."""
+    text = (EXAMPLES / "buggy.cpp").read_text()
+    throws = "if (cycle.Number() == 2 && thread.Element() == 77) throw 1;\n"
+    text = text.replace("WorkerThread&) {", f"WorkerThread& thread) {{ {throws}")
+    source = cpp.file("faulty.cpp", text)
+    program = cpp.folder / "faulty"
+    flags = ["-std=c++17", f"-I{TOP / 'include'}"]
+    cpp.output_of(["g++", *flags, source, cpp.archive, "-pthread", "-o", program])
+    given = cpp.command([program, "record", *files("buggy", EXAMPLES)])
+    line = b"job fault: cycle 2: the application threw an exception, element 77\n"
+    assert (given.status, given.err) == (70, line)
+    record = cpp.file("faulty.rec", given.out)
+    assert cpp.output_of([cpp.det, "salvage", record, "--reports"]).startswith(b"salvaged 1\n")
