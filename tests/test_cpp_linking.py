@@ -75,6 +75,7 @@ MISUSED = {
 }
 PASS = """#include <array>
 #include <list>
+#include <vector>
 #include "det/exec/deterministic_client.h"
 bool Runs(det::exec::DeterministicClient& client, det::exec::WorkerRunnable<bool>& runnable,
           {container}& container) {{

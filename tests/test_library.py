@@ -1,4 +1,4 @@
-"""The builder of the library for C and C++, over two small crates and a stand-in for the kit."""
+"""The builder of the library for C and C++, over small crates and a stand-in for the kit."""
 
 from __future__ import annotations
 
@@ -24,7 +24,7 @@ define noundef zeroext i8 @det_of_{0}(ptr noundef %a0) #0 {{
 """
 # What it makes of the C sources.
 OBJECTS = "rattle_heap\nlibrary_version\n"
-COMPILED_BOTH = "".join(COMPILED.format(crate) for crate in CRATES) + OBJECTS
+COMPILED_ALL = "".join(COMPILED.format(crate) for crate in CRATES) + OBJECTS
 
 
 def proved_archive(target: str) -> str:
@@ -32,7 +32,7 @@ def proved_archive(target: str) -> str:
 
 
 class LibraryRepository(SmallRepository):
-    """The small repository with the two crates of the library."""
+    """The small repository with the crates of the library."""
 
     def __init__(self, folder: Path) -> None:
         super().__init__(folder)
@@ -68,7 +68,7 @@ def test_compiled_once(repository: LibraryRepository) -> None:
     """The library is compiled, with no other exports, and then taken as it is."""
     first, second = repository.build(), repository.build()
     assert (first.status, first.err) == (0, COMPILED_LINE)
-    assert repository.archive() == COMPILED_BOTH
+    assert repository.archive() == COMPILED_ALL
     assert second == Outcome(0, first.out, b"")
 
 
@@ -82,7 +82,7 @@ def test_proved_library(repository: LibraryRepository) -> None:
 
 
 def test_library_after_gate(repository: LibraryRepository) -> None:
-    """Over libraries that the gate left only the two crates are proved, not over older ones."""
+    """Over libraries that the gate left only its own crates are proved, not over older ones."""
     repository.write("crates/low/out/rlib/low.rlib/format")
     repository.write("out/proved")
     first = repository.build("--prove")
@@ -131,4 +131,4 @@ def test_failure(fails: str, text: bytes, repository: LibraryRepository) -> None
     assert (given.status, given.out) == (NOT_BUILT, b""), str(given)
     assert text in given.err, str(given)
     assert repository.build().status == 0
-    assert repository.archive() == COMPILED_BOTH
+    assert repository.archive() == COMPILED_ALL

@@ -86,8 +86,8 @@ class Recorder {
   /// Takes the memory for parts of at most this shape. Afterwards no call takes memory for such a
   /// part. Without it a call takes memory if its part is the largest so far.
   Result<void> Reserve(RecordShape const& shape) noexcept {
-    if (shape.elements > 65536 || shape.element_bytes > 64 || shape.samples > 4096 ||
-        shape.output > 1048576) {
+    if (shape.elements > kMostElements || shape.element_bytes > kMostElementBytes ||
+        shape.samples > kMostSamples || shape.output > kMostOutput) {
       return DeterministicErrc::kOutOfRange;
     }
     std::size_t const bytes = kFixedBytes + kSampleBytes * shape.samples +
@@ -133,9 +133,11 @@ class Recorder {
   Result<void> FinishedInPlace(CycleInput const& input, std::size_t count, Spell&& spell,
                                Items<std::uint8_t> output = {}) {
     if (failed_) return DeterministicErrc::kWriteFailed;
+    if (count > kMostElements) return DeterministicErrc::kOutOfRange;
     used_ = 0;
     DetRecord record = record_;
-    std::uint8_t const answer = SpellCycle(record, input, count, spell, output);
+    std::uint8_t const answer =
+        SpellCycle(record, input, static_cast<std::uint32_t>(count), spell, output);
     return Settle(answer, record);
   }
 
@@ -163,9 +165,14 @@ class Recorder {
   /// time, the outcome and three counts. Then those of a sample, and of an element's length and
   /// draws.
   static constexpr std::size_t kFixedBytes = 23, kSampleBytes = 10, kElementHead = 6;
-  static constexpr std::size_t kMostRoom =
-      kFixedBytes + 4096 * kSampleBytes + 65536 * (kElementHead + 64) + 1048576;
+  static constexpr std::size_t kMostElements = 65536, kMostElementBytes = 64;
+  static constexpr std::size_t kMostSamples = 4096, kMostOutput = 1048576;
+  static constexpr std::size_t kMostRoom = kFixedBytes + kMostSamples * kSampleBytes +
+                                           kMostElements * (kElementHead + kMostElementBytes) +
+                                           kMostOutput;
   static constexpr std::size_t kFirstRoom = 4096;
+  /// The answer of no proved call: there is no memory for the buffer.
+  static constexpr std::uint8_t kNoMemory = 255;
 
   static DetTime TimeOf(CycleInput const& input) noexcept {
     return DetTime{input.time.value_or(0), input.time.has_value()};
@@ -193,7 +200,7 @@ class Recorder {
   }
 
   template <typename SpellElement>
-  std::uint8_t SpellCycle(DetRecord& record, CycleInput const& input, std::size_t count,
+  std::uint8_t SpellCycle(DetRecord& record, CycleInput const& input, std::uint32_t count,
                           SpellElement& spell, Items<std::uint8_t> output) {
     DetTime const time = TimeOf(input);
     DetRun run{};
@@ -201,11 +208,12 @@ class Recorder {
       return det_run_open(&run, &record, &time, input.samples.data(), input.samples.size(), count,
                           out, room, written);
     });
-    for (std::size_t i = 0; answer == DET_RECORD_DONE && i < count; ++i) {
+    for (std::uint32_t i = 0; answer == DET_RECORD_DONE && i < count; ++i) {
       DetElement element;
       element.len = 0;
       element.draws = 0;
-      spell(static_cast<std::uint32_t>(i), element);
+      spell(i, element);
+      if (element.len > kMostElementBytes) return DET_RECORD_OUT_OF_RANGE;
       answer = Spell([&](std::uint8_t* out, std::size_t room, std::size_t* written) {
         return det_run_element(&run, element.bytes, element.len, element.draws, out, room, written);
       });
@@ -228,7 +236,7 @@ class Recorder {
       }
       if (answer == DET_RECORD_DONE) used_ += written;
       if (answer != DET_RECORD_NO_ROOM) return answer;
-      if (!MakeRoom()) return DET_RECORD_NO_MEMORY;
+      if (!MakeRoom()) return kNoMemory;
     }
   }
 
