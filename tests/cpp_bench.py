@@ -41,9 +41,12 @@ def need(*tools: str) -> None:
     assert not missing, f"no {', '.join(missing)} here: install the Debian packages {packages}"
 
 
-def compile_example(name: str, archive: Path, program: Path) -> Path:
+def compile_example(
+    name: str, archive: Path, program: Path, flags: Sequence[str] = ("-O2",)
+) -> Path:
     """A program of an example and the library."""
-    words = ["g++", *CPP, "-O2", EXACT, EXAMPLES / f"{name}.cpp", archive, "-pthread"]
+    need("g++")
+    words = ["g++", *CPP, *flags, EXACT, EXAMPLES / f"{name}.cpp", archive, "-pthread"]
     make([*words, "-o", program])
     return program
 

@@ -11,7 +11,7 @@ import pytest
 
 from against_det import JOBS, Against
 from commands import TOP, difference
-from cpp_bench import EXAMPLES, CppBench
+from cpp_bench import EXAMPLES, CppBench, compile_example
 
 WORKERS = (1, 4, 16)
 SEED = 5
@@ -71,6 +71,25 @@ def test_random_files(seed: int, cpp: CppBench) -> None:
     assert statuses >= {0, 1, 2, 3, 4, 5}, f"the files are too tame: {against.seen}"
 
 
+SANITIZED = {
+    "address": ("-O1", "-g", "-fsanitize=address,undefined", "-fno-sanitize-recover=all"),
+    "thread": ("-O1", "-g", "-fsanitize=thread"),
+}
+
+
+@pytest.mark.slow
+@pytest.mark.parametrize("build", SANITIZED)
+def test_random_files_sanitized(build: str, cpp: CppBench) -> None:
+    """The same under sanitizers, over fewer files."""
+    folder = cpp.folder / build
+    folder.mkdir()
+    for job in JOBS:
+        compile_example(job, cpp.archive, folder / job, SANITIZED[build])
+    against = Against(Path(cpp.det), folder, folder, 9)
+    against.run(300)
+    assert not against.apart, "\n".join(against.apart)
+
+
 BAD_WORDS = ([], ["nosuch"], ["record"], ["record", "a"], ["record", "a", "b", "c"])
 BAD_WORDS += (["record", "a", "b", "--seed"], ["record", "a", "b", "--workers", "65"])
 BAD_WORDS += (["check", "a", "--seed", "1"], ["replay", "a", "--workers=2"], ["needs", "-x"])
@@ -89,19 +108,46 @@ def test_hints_on_words(words: list[str], cpp: CppBench) -> None:
     assert (given.status, given.out) == (2, b"")
 
 
-def test_hints_on_files(cpp: CppBench) -> None:
-    """Files that can't be read, a bad parameter and another job have det's hints."""
+MANIFESTS = {
+    "params = [": "params = [0, ",
+    'job = "cloud"': "job = 5",
+    "cycle_time_ns = ": "cycle_time_ns = -",
+    "workers = ": "workers = 65",
+    'name = "x"': 'name = "X"',
+    "capacity = ": "capacity = 1.",
+}
+
+
+def test_hints_on_manifests(cpp: CppBench) -> None:
+    """Bad manifests have det's hints; the only job is the program's own."""
     program = cpp.example_program("cloud")
     text = files("cloud")[0].read_text()
-    bad = cpp.file("bad.toml", text.replace("params = [", "params = [0, "))
-    record = cpp.output_of([cpp.det, "record", *files("cloud")])
-    odd = cpp.file("odd.rec", record[:8] + b"\xff\xff" + record[10:])
-    for words in (["needs", "nosuch"], ["needs", bad], ["check", odd], ["check", "/"]):
+    texts = [text.replace(old, new, 1) for old, new in MANIFESTS.items()]
+    assert all(it != text for it in texts)
+    for data in (*texts, "#" * 65537, text.replace("capacity", "pocket", 1)):
+        words = ["needs", cpp.file("bad.toml", data)]
         wanted, given = (cpp.command([it, *words]) for it in (cpp.det, program))
-        assert wanted.status and given == wanted, f"{words}: {given.err!r}, not {wanted.err!r}"
+        assert wanted.status == 3
+        assert given.err == wanted.err.replace(b"bank, cloud or guard", b"cloud"), data
     other = cpp.file("other.toml", text.replace('"cloud"', '"other"'))
     given = cpp.command([program, "needs", other])
     assert given.err == b"bad manifest: unknown job\n  job: cloud\n"
+
+
+def test_hints_on_records(cpp: CppBench) -> None:
+    """Bad records, files that can't be read and other profiles have det's hints."""
+    program = cpp.example_program("cloud")
+    record = cpp.output_of([cpp.det, "record", *files("cloud")])
+    odd = [record[:8] + b"\xff\xff" + record[10:], record + b"x"]
+    odd += [record[:at] for at in range(0, len(record), len(record) // 40 + 1)]
+    odd += [record[:at] + b"\xff" * 9 + record[at + 9 :] for at in range(0, len(record), 97)]
+    for data in odd:
+        words = ["check", cpp.file("odd.rec", data)]
+        wanted, given = (cpp.command([it, *words]) for it in (cpp.det, program))
+        assert given == wanted, f"{given.err!r}, not {wanted.err!r}"
+    for name in ("nosuch", "/"):
+        wanted, given = (cpp.command([it, "check", name]) for it in (cpp.det, program))
+        assert wanted.status == 6 and given == wanted, f"{given.err!r}, not {wanted.err!r}"
 
 
 def test_help(cpp: CppBench) -> None:

@@ -27,8 +27,6 @@ struct Sum {
 /// A job that does in each cycle what its newest sample says.
 class Scripted final : public Job<std::int64_t, Sum> {
  public:
-  static constexpr char const* kName = "scripted";
-  static constexpr std::uint16_t kNumber = 99;
   enum Does : std::int64_t {
     kPlain,
     kPrepare,
@@ -178,8 +176,6 @@ void ParametersOneByOne() {
 /// A job whose elements are longer than a record allows, and one with too many.
 class TooLong final : public Job<std::int64_t> {
  public:
-  static constexpr char const* kName = "long";
-  static constexpr std::uint16_t kNumber = 1;
   explicit TooLong(std::size_t count) : count_(count) {}
   void Init(Start<TooLong>& start) const { start.Resize(count_); }
   void Run(Cycle<TooLong>&) const {}

@@ -1,4 +1,4 @@
-// A file that is read in order, and a manifest that is read whole.
+// A file that is read in order.
 #ifndef DET_EXEC_FILE_INPUT_H
 #define DET_EXEC_FILE_INPUT_H
 
@@ -11,8 +11,6 @@
 #include <cstdint>
 #include <cstring>
 
-#include "det/exec/det_manifest.h"
-#include "det/exec/det_verdict.h"
 #include "det/exec/memory.h"
 #include "det/exec/outcome.h"
 #include "det/exec/version.h"
@@ -86,27 +84,6 @@ class FileInput {
   int descriptor_ = -1;
   bool at_end_ = false;
 };
-
-/// The outcome of a manifest that isn't taken.
-inline Outcome BadManifest(DetManifestFault const& fault) noexcept {
-  return Outcome::Of(DET_STATUS_BAD_MANIFEST,
-                     [&fault](DetText& text) { det_text_bad_manifest(&fault, &text); });
-}
-
-/// Reads a manifest. If it isn't done, `manifest` may be anything.
-inline Outcome ReadManifest(char const* name, bool strict, DetManifest& manifest) noexcept {
-  constexpr std::size_t kTooMany = 65537;
-  FileInput file;
-  Outcome outcome = file.Open(name);
-  if (outcome.IsDone()) outcome = file.Fill(kTooMany);
-  if (!outcome.IsDone()) return outcome;
-  DetManifestFault fault;
-  switch (det_manifest_read(&manifest, &fault, file.Bytes(), file.Count(), strict)) {
-    case DET_MANIFEST_READ: return Outcome();
-    case DET_MANIFEST_NO_MEMORY: return Outcome::OfStatus(DET_STATUS_OUT_OF_MEMORY);
-    default: return BadManifest(fault);
-  }
-}
 
 }  // namespace DET_EXEC_ABI
 }  // namespace det::exec

@@ -62,6 +62,7 @@ class RecordReader {
           det_reading_frame(&reading_, file_.Bytes(), file_.Count(), &frame, &fault);
       if (read == DET_READING_WHOLE) {
         length_ = frame.length;
+        ++frames_;
         return Outcome();
       }
       if (read != DET_READING_MORE) return Bad(fault);
@@ -95,9 +96,25 @@ class RecordReader {
   std::size_t Length() const noexcept { return length_; }
 
  private:
-  static Outcome Bad(DetRecordFault const& fault) noexcept {
-    return Outcome::Of(DET_STATUS_BAD_RECORD,
-                       [&fault](DetText& text) { det_text_bad_record(0, &fault, &text); });
+  /// Bad record, with the hint of `det` on the place of the fault.
+  Outcome Bad(DetRecordFault const& fault) const noexcept {
+    Outcome outcome =
+        Outcome::Of(DET_STATUS_BAD_RECORD,
+                    [&fault](DetText& text) { det_text_bad_record(0, &fault, &text); });
+    bool const is_at_begin = fault.offset <= reading_.offset;
+    std::uint8_t const stage = reading_.record.stage;
+    if (stage == kBeforeHeader) return outcome.Add("  in the header\n");
+    if (stage > kInCycles) {
+      return outcome.Add("  behind frame ").AddNumber(frames_ - 1).Add(", Terminate\n");
+    }
+    if (stage < kBeforeInit || is_at_begin) {
+      constexpr char const* kAllowed[] = {"Register", "Discover", "Init", "a run or Terminate"};
+      outcome.Add("  where frame ").AddNumber(frames_).Add(" begins: ");
+      return outcome.Add(kAllowed[stage - 1]).Add("\n");
+    }
+    outcome.Add("  in frame ").AddNumber(frames_);
+    if (stage == kBeforeInit) return outcome.Add(", Init\n");
+    return outcome.Add(", the run of cycle ").AddNumber(frames_ - 2).Add("\n");
   }
 
   Outcome Truncated() const noexcept {
@@ -106,9 +123,13 @@ class RecordReader {
     return Bad(fault);
   }
 
+  /// Stages of a DetRecord: before the header, before Init, and from the first cycle to Terminate.
+  static constexpr std::uint8_t kBeforeHeader = 0, kBeforeInit = 3, kInCycles = 4;
+
   FileInput file_;
   DetReading reading_;
   std::size_t length_ = 0;
+  std::int64_t frames_ = 0;
 };
 
 /// The samples of a frame, in an array that is kept from one frame to the next.

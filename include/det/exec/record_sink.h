@@ -77,7 +77,7 @@ class DescriptorSink final : public RecordSink {
   int error_ = 0;
 };
 
-/// A file descriptor that is written in pieces of 64 KiB.
+/// A file descriptor that is written in pieces of 64 KiB. The buffer is in the sink itself.
 class BufferedSink final : public RecordSink {
  public:
   explicit BufferedSink(int descriptor) noexcept : sink_(descriptor) {}

@@ -12,7 +12,7 @@
 
 #include "det/exec/det_manifest.h"
 #include "det/exec/engine.h"
-#include "det/exec/file_input.h"
+#include "det/exec/manifest_reader.h"
 #include "det/exec/outcome.h"
 #include "det/exec/record_reader.h"
 #include "det/exec/version.h"
@@ -30,7 +30,7 @@ class Setup {
     manifest_.reset(new (std::nothrow) DetManifest{});
     header_.reset(new (std::nothrow) DetHeader{});
     if (!manifest_ || !header_) return Outcome::OfStatus(DET_STATUS_OUT_OF_MEMORY);
-    Outcome const outcome = ReadManifest(name, is_strict, *manifest_);
+    Outcome const outcome = ReadManifest(name, is_strict, *manifest_, J::kName);
     if (!outcome.IsDone()) return outcome;
     auto const* const job = reinterpret_cast<std::uint8_t const*>(J::kName);
     if (!det_manifest_is_job(manifest_.get(), job, std::strlen(J::kName))) return UnknownJob();
@@ -42,7 +42,7 @@ class Setup {
       DetManifestFault fault{};
       fault.reason = DET_MANIFEST_BAD_PARAMETER;
       fault.number = static_cast<std::uint16_t>(bad.number);
-      return BadManifest(fault);
+      return BadManifest(fault, J::kName);
     });
   }
 
@@ -71,8 +71,7 @@ class Setup {
   static Outcome UnknownJob() noexcept {
     DetManifestFault fault{};
     fault.reason = DET_MANIFEST_UNKNOWN_JOB;
-    Outcome outcome = BadManifest(fault);
-    return outcome.Add("  job: ").Add(J::kName).Add("\n");
+    return BadManifest(fault, J::kName);
   }
 
   static Outcome BadProfile() noexcept {

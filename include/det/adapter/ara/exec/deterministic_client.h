@@ -20,8 +20,8 @@
 #include <utility>
 
 #include "det/exec/deterministic_client.h"
-#include "det/exec/file_input.h"
 #include "det/exec/live.h"
+#include "det/exec/manifest_reader.h"
 
 #if !DET_EXEC_ARA_CORE
 #error "compile all sources with -DDET_EXEC_ARA_CORE=1, and ara/core/result.h on the include path"
