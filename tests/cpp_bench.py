@@ -11,7 +11,6 @@ from commands import TOP, Bench, Outcome, Programs, Word, make, run
 SOURCES = TOP / "tests" / "cpp"
 EXAMPLES = TOP / "examples" / "cpp"
 INCLUDE = TOP / "include"
-ADAPTER = INCLUDE / "det" / "adapter"
 # The most seconds that a test program, or a compiler, may take.
 LIMIT = 1800
 WARNINGS = ("-Wall", "-Wextra", "-Wpedantic", "-Wshadow", "-Wconversion", "-Werror")

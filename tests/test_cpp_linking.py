@@ -12,7 +12,7 @@ from pathlib import Path
 import pytest
 
 from commands import TOP, run
-from cpp_bench import ADAPTER, C, CORE, CPP, EXAMPLES, INCLUDE, SOURCES, CppBench, need
+from cpp_bench import C, CORE, CPP, EXAMPLES, INCLUDE, SOURCES, CppBench, need
 
 # A job and its program, so that templates are compiled too.
 JOB = """using namespace det::exec;
@@ -37,17 +37,20 @@ WAYS = [
     for standard in ("c++17", "c++20")
     for more in ((), ("-fno-exceptions", "-fno-rtti"), CORE)
 ]
-ALONE = [(it, "g++", (*CPP, *CORE)) for it in HEADERS]
+ADAPTER = sorted((INCLUDE / "ara" / "exec").glob("*.h"))
+ALONE = [(it, "g++", (*CPP, *CORE)) for it in (*HEADERS, *ADAPTER)]
 ALONE += [(it, "gcc", C) for it in C_HEADERS]
 
 
 @pytest.mark.parametrize(
-    "header, compiler, flags", ALONE, ids=[f"{it[0].name}, {it[1]}" for it in ALONE]
+    "header, compiler, flags",
+    ALONE,
+    ids=[f"{it[0].relative_to(INCLUDE)}, {it[1]}" for it in ALONE],
 )
 def test_header(header: Path, compiler: str, flags: tuple[str, ...], cpp: CppBench) -> None:
     """A header compiles without another one before it, twice in one file."""
     need(compiler)
-    include = f'#include "det/exec/{header.name}"\n'
+    include = f'#include "{header.relative_to(INCLUDE)}"\n'
     ending = "c" if compiler == "gcc" else "cpp"
     source = cpp.file(f"alone.{ending}", f"{include}{include}extern int nothing;\n")
     cpp.output_of([compiler, *flags, "-fsyntax-only", source])
@@ -176,13 +179,10 @@ def defined(cpp: CppBench, name: str, flags: tuple[str, ...] = ()) -> set[str]:
     return set(re.findall(r"^[0-9a-f]{16} [TWVBDRu] (\S+)$", text, re.MULTILINE))
 
 
-WITH_ADAPTER = (*CORE, f"-I{ADAPTER}")
-
-
 def test_adapter(cpp: CppBench) -> None:
     """An application that was written for a vendor's stack runs over the adapter, unchanged: for
     each number of workers it ends with the same elements."""
-    flags = [*CPP, *WITH_ADAPTER]
+    flags = [*CPP, *CORE]
     program = cpp.compile("g++", ["vendor_application.cpp"], "vendor_application", flags)
     sums = set()
     for workers in (1, 4, 16):
@@ -197,9 +197,9 @@ def test_adapter(cpp: CppBench) -> None:
 def test_beside_a_vendor(cpp: CppBench) -> None:
     """The client works beside a vendor's library in one process: they share no symbol."""
     sources = ["vendor_beside.cpp", "vendor_library.cpp"]
-    program = cpp.compile("g++", sources, "vendor_beside", [*CPP, *WITH_ADAPTER])
+    program = cpp.compile("g++", sources, "vendor_beside", [*CPP, *CORE])
     assert cpp.output_of([program]) == b"ours right, the vendor's 42\n"
-    ours = defined(cpp, "vendor_beside", WITH_ADAPTER)
+    ours = defined(cpp, "vendor_beside", CORE)
     assert ours and not ours & defined(cpp, "vendor_library")
 
 
@@ -208,7 +208,7 @@ def test_both_headers(cpp: CppBench) -> None:
     vendor = (SOURCES / "vendor_library.cpp").read_text()
     text = f"{vendor}#include <ara/exec/deterministic_client.h>\n"
     source = cpp.file("both.cpp", f"{text}ara::exec::DeterministicClient* both;\n")
-    given = cpp.command(["g++", *CPP, *WITH_ADAPTER, "-fsyntax-only", source])
+    given = cpp.command(["g++", *CPP, *CORE, "-fsyntax-only", source])
     text = given.err.decode(errors="replace")
     assert re.search(r"reference to .DeterministicClient. is ambiguous", text), text
 
@@ -243,7 +243,7 @@ def test_version(cpp: CppBench) -> None:
     text = (INCLUDE / "det" / "exec" / "version.h").read_text()
     version = re.search(r'DET_VERSION_TEXT "(.*)"', text)
     assert version and f"VERSION = {version[1]}\n" in (TOP / "Makefile").read_text()
-    checks = 'int main(void) { return det_library_version() == DET_VERSION ? 0 : 1; }\n'
+    checks = "int main(void) { return det_library_version() == DET_VERSION ? 0 : 1; }\n"
     source = cpp.file("version.c", f'#include "det/exec/version.h"\n{checks}')
     program = cpp.folder / "version"
     cpp.output_of(["gcc", *C, source, cpp.archive, "-o", program])

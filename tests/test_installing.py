@@ -30,7 +30,9 @@ def files_of_package() -> list[str]:
     found += [LIBRARY, "lib/pkgconfig/deterministic_client.pc"]
     package = "lib/cmake/deterministic_client/deterministic_client-config"
     found += [f"{package}.cmake", f"{package}-version.cmake"]
-    found += [str(path.relative_to(TOP)) for path in (TOP / "include").rglob("*.h")]
+    found += [f"include/det/exec/{it.name}" for it in (TOP / "include/det/exec").glob("*.h")]
+    adapter = (TOP / "include/ara/exec").glob("*.h")
+    found += [f"include/det/adapter/ara/exec/{it.name}" for it in adapter]
     return found + ["bin/det_record", "bin/det_view"]
 
 

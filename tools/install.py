@@ -35,7 +35,9 @@ MODULES = ("tools/det_*.py", "tools/record_*.py", "tools/view/*.py")
 DOCUMENTS = ("README.md", "docs/*.md", "docs/pictures/*")
 LIBRARY = "out/lib/libdeterministic_client.a"
 PACKAGE = "deterministic_client"
-HEADERS = ("include/det/exec/*.h", "include/det/adapter/ara/exec/*.h")
+# The headers, and where below INCLUDEDIR they go. The adapter has a folder of its own, so that it
+# hides no vendor's header.
+HEADERS = {"include/det/exec": "det/exec", "include/ara/exec": "det/adapter/ara/exec"}
 LISTED = "share/det/installed"
 PROGRAM, DATA, FOLDER = 0o755, 0o644, 0o755
 
@@ -151,10 +153,13 @@ def package_file(template: str, to: str, places: Places, version: str) -> Copy:
 
 def library(places: Places, version: str, archive: str) -> list[Copy]:
     """The static library with its headers, and the files for CMake and pkg-config."""
-    headers = [name for pattern in HEADERS for name in files_like(pattern)]
+    headers = {
+        name: f"{places.includedir}/{folder}/{Path(name).name}"
+        for source_folder, folder in HEADERS.items()
+        for name in files_like(f"{source_folder}/*.h")
+    }
     if not headers:
         raise Refused("include/det/exec has no headers")
-    include = Path(places.includedir)
     to = {
         f"cpp/{PACKAGE}.pc.in": f"{places.libdir}/pkgconfig/{PACKAGE}.pc",
         f"cpp/{PACKAGE}-config.cmake.in": f"{places.libdir}/cmake/{PACKAGE}/{PACKAGE}-config.cmake",
@@ -164,7 +169,7 @@ def library(places: Places, version: str, archive: str) -> list[Copy]:
     return [
         Copy(f"{places.libdir}/lib{PACKAGE}.a", source(archive)),
         *[package_file(template, name, places, version) for template, name in to.items()],
-        *[Copy(str(include / Path(name).relative_to("include")), source(name)) for name in headers],
+        *[Copy(place, source(name)) for name, place in headers.items()],
     ]
 
 

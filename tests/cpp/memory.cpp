@@ -1,5 +1,5 @@
-// Every request for memory refused in turn: those of the proved code, whose three functions the
-// test defines itself, and those of the headers, by operator new.
+// Every request for memory refused in turn: those of the headers, by operator new. The proved code
+// makes none; its three functions, which the test defines itself, would count one.
 #include <cstdlib>
 #include <cstring>
 #include <new>

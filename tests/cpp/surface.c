@@ -79,7 +79,7 @@ static void a_record(void) {
   memset(elements, 0, sizeof elements);
   for (int k = 0; k < 4; ++k) elements[k].len = 8;
 #define OUT bytes.kept + bytes.count, sizeof bytes.kept - bytes.count, &written
-  holds(!det_record_new(&record, 3) && det_record_new(&record, 2), "a record is made");
+  holds(!det_record_new(&record, 3) && det_record_new(&record, 2), "formats are 1 and 2");
   holds(det_record_register(&record, OUT) == DET_RECORD_MISPLACED, "Register before the header");
   holds(det_record_header(&record, &profile, params, 2, &event, 1, bytes.kept, 10, &written) ==
             DET_RECORD_NO_ROOM,

@@ -46,8 +46,8 @@ class Engine final : private ActivationSource {
   using Element = typename J::Element;
   using State = typename J::State;
 
-  /// The engine has a copy of the job, whose copy constructor throws nothing. The sink has to live as
-  /// long as the engine.
+  /// The engine has a copy of the job, whose copy constructor throws nothing. The sink has to live
+  /// as long as the engine.
   Engine(J const& job, RecordSink& sink) noexcept : job_(job), sink_(sink) {}
   Engine(Engine const&) = delete;
   Engine& operator=(Engine const&) = delete;

@@ -32,7 +32,8 @@ struct ThreadOptions {
   /// Workers 1, 2, .. are named `name-1`, `name-2`, .. The first 12 bytes of the name are used.
   char const* name = nullptr;
   /// Each worker thread calls `started` before it waits for its first pass, and `ending` as its
-  /// last call. An application can lock the stack in them, or inform a monitor. Workers count from 1.
+  /// last call. An application can lock the stack in them, or inform a monitor. Workers count from
+  /// 1.
   void (*started)(unsigned worker, void* context) noexcept = nullptr;
   void (*ending)(unsigned worker, void* context) noexcept = nullptr;
   void* context = nullptr;

@@ -1,17 +1,17 @@
 // ara::exec::DeterministicClient for an application that was written for a vendor's stack of the
-// releases R20-11 to R22-11. Its include folder, include/det/adapter, takes the place of the
-// vendor's.
+// releases R20-11 to R22-11: an adapter over det::exec, on request. It only compiles with
+// -DDET_EXEC_ARA_CORE=1, which the whole program needs, since the calls return results of
+// ara::core.
 //
 // All names are in an inline namespace of this repository, so no symbol is one of a vendor's
 // library in the same process. A source file includes this header or the vendor's: with both, the
 // compiler reports that a name is ambiguous.
 //
-// The whole program is compiled with -DDET_EXEC_ARA_CORE=1, since the calls return results of
-// ara::core. A client of the default constructor takes cycle time and workers from the manifest
-// that the environment names in DET_MANIFEST. It runs by the steady clock, without end or for as
-// many cycles as DET_CYCLES says.
-#ifndef DET_ADAPTER_ARA_EXEC_DETERMINISTIC_CLIENT_H
-#define DET_ADAPTER_ARA_EXEC_DETERMINISTIC_CLIENT_H
+// A client of the default constructor takes cycle time and workers from the manifest that the
+// environment names in DET_MANIFEST. It runs by the steady clock, without end or for as many cycles
+// as DET_CYCLES says.
+#ifndef DET_ARA_EXEC_DETERMINISTIC_CLIENT_H
+#define DET_ARA_EXEC_DETERMINISTIC_CLIENT_H
 
 #include <cstdlib>
 #include <memory>
