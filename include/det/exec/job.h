@@ -178,7 +178,8 @@ class Start : public Stage<J> {
     return this->Elements();
   }
 
-  /// An output has at most this many bytes, at most 1,048,576. The default is 256.
+  /// An output has at most this many bytes. The default is 256, and the most 1,048,576; with more
+  /// the run doesn't begin, by kOutOfRange.
   void ReserveOutput(std::size_t bytes) noexcept {
     if (!output_->Reserve(bytes)) this->Fail(DeterministicErrc::kNoMemory);
   }

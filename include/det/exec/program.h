@@ -25,11 +25,13 @@ inline namespace DET_EXEC_ABI {
 
 /// What a program has besides its job.
 struct ProgramOptions {
+  /// What --version prints after the job's name.
   char const* version = "0";
   ThreadOptions threads;
   /// The bytes of a live run's record that may wait for a thread that writes them. With 0 each
   /// cycle writes its own part.
   std::size_t waiting_bytes = 0;
+  /// Descriptors for the output and for lines on errors.
   int out = STDOUT_FILENO;
   int err = STDERR_FILENO;
 };
