@@ -22,4 +22,4 @@ class Buggy final : public Job<std::int64_t> {
   }
 };
 
-int main(int count, char** words) { return Main<Buggy>(count, words); }
+int main(int count, char** arguments) { return Main<Buggy>(count, arguments); }

@@ -106,4 +106,4 @@ class Cloud final : public Job<Particle, Finished> {
   std::int64_t count_, spread_, reseed_, far_;
 };
 
-int main(int count, char** words) { return Main<Cloud>(count, words); }
+int main(int count, char** arguments) { return Main<Cloud>(count, arguments); }

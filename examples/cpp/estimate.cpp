@@ -94,4 +94,4 @@ class Estimate final : public Job<Filter> {
   double noise_;
 };
 
-int main(int count, char** words) { return Main<Estimate>(count, words); }
+int main(int count, char** arguments) { return Main<Estimate>(count, arguments); }

@@ -74,4 +74,4 @@ class Guard final : public Job<Channel, Corrections> {
   std::int64_t channels_, low_, high_, limit_, most_;
 };
 
-int main(int count, char** words) { return Main<Guard>(count, words); }
+int main(int count, char** arguments) { return Main<Guard>(count, arguments); }

@@ -103,8 +103,8 @@ int Check(char const* name) {
   return genuine ? 0 : 5;
 }
 
-int main(int count, char** words) {
-  if (count == 2 && std::strcmp(words[1], "record") == 0) return Record();
-  if (count == 3 && std::strcmp(words[1], "check") == 0) return Check(words[2]);
+int main(int count, char** arguments) {
+  if (count == 2 && std::strcmp(arguments[1], "record") == 0) return Record();
+  if (count == 3 && std::strcmp(arguments[1], "check") == 0) return Check(arguments[2]);
   return 2;
 }

@@ -44,4 +44,4 @@ class Sensor final : public TimerSource {
   std::int64_t ticks_ = 0;
 };
 
-int main(int count, char** words) { return Main<Tracker, Sensor>(count, words); }
+int main(int count, char** arguments) { return Main<Tracker, Sensor>(count, arguments); }

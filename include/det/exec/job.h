@@ -126,7 +126,7 @@ class Job {
 
 /// What a job sees both at its initialization and in a cycle.
 template <typename J>
-class Stage {
+class JobContext {
  public:
   using Element = typename J::Element;
 
@@ -145,8 +145,8 @@ class Stage {
   std::optional<DeterministicError> Error() const noexcept { return error_; }
 
  protected:
-  Stage(DeterministicClient& client, internal::Array<Element>& elements,
-        typename J::State& state) noexcept
+  JobContext(DeterministicClient& client, internal::Array<Element>& elements,
+             typename J::State& state) noexcept
       : client_(&client), elements_(&elements), state_(&state) {}
 
   DeterministicClient* client_;
@@ -157,13 +157,13 @@ class Stage {
 
 /// The initialization, in which a job says how large its parts are.
 template <typename J>
-class Start : public Stage<J> {
+class Start : public JobContext<J> {
  public:
   using Element = typename J::Element;
 
   Start(DeterministicClient& client, internal::Array<Element>& elements, typename J::State& state,
         BoundedBytes& output) noexcept
-      : Stage<J>(client, elements, state), output_(&output) {}
+      : JobContext<J>(client, elements, state), output_(&output) {}
 
   /// Makes the job's elements, at most 65,536, each with this value. It is called at most once;
   /// their number stays the same for the whole run.
@@ -196,13 +196,13 @@ class Start : public Stage<J> {
 
 /// A cycle.
 template <typename J>
-class Cycle : public Stage<J> {
+class Cycle : public JobContext<J> {
  public:
   using Element = typename J::Element;
 
   Cycle(DeterministicClient& client, internal::Array<Element>& elements, typename J::State& state,
         BoundedBytes& output, Span<EventWindow const> events) noexcept
-      : Stage<J>(client, elements, state), output_(&output), events_(events) {}
+      : JobContext<J>(client, elements, state), output_(&output), events_(events) {}
 
   /// Cycles count from 1.
   std::uint32_t Number() const noexcept { return this->client_->Cycle(); }
