@@ -3,6 +3,12 @@
 VERSION = 0.1.0
 PREFIX = /usr/local
 DESTDIR =
+# Folders below PREFIX, as lib/x86_64-linux-gnu.
+LIBDIR = lib
+INCLUDEDIR = include
+MANDIR = share/man
+ROOT = --prefix "$(PREFIX)" --destdir "$(DESTDIR)"
+FOLDERS = --libdir "$(LIBDIR)" --includedir "$(INCLUDEDIR)" --mandir "$(MANDIR)"
 # A python3 that has pytest, where there is one.
 PYTHON = $(shell for it in python3 /usr/bin/python3; do \
     $$it -c 'import pytest' 2>/dev/null && echo $$it && exit; done; echo python3)
@@ -52,10 +58,10 @@ check: has-pytest prove
 
 # Copies what `make` built, and builds nothing.
 install:
-	$(PYTHON) tools/install.py --version "$(VERSION)" --prefix "$(PREFIX)" --destdir "$(DESTDIR)"
+	$(PYTHON) tools/install.py --version "$(VERSION)" $(ROOT) $(FOLDERS)
 
 uninstall:
-	$(PYTHON) tools/install.py --uninstall --prefix "$(PREFIX)" --destdir "$(DESTDIR)"
+	$(PYTHON) tools/install.py --uninstall $(ROOT)
 
 # Records that stand in out/ stay.
 clean:

@@ -10,6 +10,7 @@ documents. `python3` is one that has pytest; on Debian that is /usr/bin/python3.
     python3 -m pytest -k 'bank_rules or lane'   the tests whose names have one of the words
     python3 -m pytest --collect-only -q         the names of all tests
     python3 -m pytest --programs=FOLDER         over other builds of det, det_lane and det_twin
+    python3 -m pytest --library=FILE            over another build of the library for C++
     python3 -m pytest --prove                   over proved programs, and a proved library for C++
 
 A group is a file `test_*.py`; its head says what it shows. The other modules are shared by groups;
@@ -45,6 +46,7 @@ SHARED = pytest.StashKey[Path]()
 def pytest_addoption(parser: pytest.Parser) -> None:
     group = parser.getgroup("programs under test")
     group.addoption("--programs", type=Path, help="a folder with det, det_lane and det_twin")
+    group.addoption("--library", type=Path, help="an archive of the library for C and C++")
     group.addoption("--prove", action="store_true", help="proved programs, and a proved library")
     group.addoption("--all-calls", action="store_true", help="each call of the system fails once")
 
@@ -130,9 +132,12 @@ def programs(pytestconfig: pytest.Config) -> Programs:
 
 @pytest.fixture(scope="session")
 def library(pytestconfig: pytest.Config) -> Path:
-    """The archive for C and C++, proved by --prove. Tests are skipped where none can be compiled
-    without its proofs."""
+    """The archive for C and C++: that of --library, or one that is proved by --prove. Tests are
+    skipped where none can be compiled without its proofs."""
     is_proof = pytestconfig.getoption("prove")
+    given = pytestconfig.getoption("library")
+    if given:
+        return pytestconfig.invocation_params.dir.joinpath(given).resolve()
 
     def fill(folder: Path) -> None:
         (folder / "library.a").symlink_to(build_library(is_proof))

@@ -2,18 +2,52 @@
 
 from __future__ import annotations
 
+import shutil
 from pathlib import Path
-from typing import Sequence
+from typing import Optional, Sequence
 
-from commands import TOP, Bench, Outcome, Programs, Word, run
+from commands import TOP, Bench, Outcome, Programs, Word, make, run
 
 SOURCES = TOP / "tests" / "cpp"
+EXAMPLES = TOP / "examples" / "cpp"
 INCLUDE = TOP / "include"
 # The most seconds that a test program, or a compiler, may take.
 LIMIT = 1800
-WARNINGS = ("-Wall", "-Wextra", "-Wpedantic", "-Werror")
+WARNINGS = ("-Wall", "-Wextra", "-Wpedantic", "-Wshadow", "-Wconversion", "-Werror")
 C = ("-std=c11", *WARNINGS, f"-I{INCLUDE}")
 CPP = ("-std=c++17", *WARNINGS, f"-I{INCLUDE}", f"-I{SOURCES}")
+# What is needed with ara::core, whose least headers are in tests/cpp/core, and for its adapter.
+CORE = ("-DDET_EXEC_ARA_CORE=1", f"-I{SOURCES / 'core'}")
+# So that each product and sum is rounded, on every processor.
+EXACT = "-ffp-contract=off"
+# The Debian package of each tool that a test needs.
+PACKAGES = {
+    "aarch64-linux-gnu-g++": "g++-aarch64-linux-gnu",
+    "clang++": "clang",
+    "cmake": "cmake",
+    "g++": "g++",
+    "gcc": "gcc",
+    "nm": "binutils",
+    "pkg-config": "pkg-config",
+    "qemu-aarch64-static": "qemu-user-static",
+}
+
+
+def need(*tools: str) -> None:
+    """Fails if the machine lacks a tool, and says which Debian package has it."""
+    missing = [it for it in tools if not shutil.which(it)]
+    packages = " ".join(PACKAGES[it] for it in missing)
+    assert not missing, f"no {', '.join(missing)} here: install the Debian packages {packages}"
+
+
+def compile_example(
+    name: str, archive: Path, program: Path, flags: Sequence[str] = ("-O2",)
+) -> Path:
+    """A program of an example and the library."""
+    need("g++")
+    words = ["g++", *CPP, *flags, EXACT, EXAMPLES / f"{name}.cpp", archive, "-pthread"]
+    make([*words, "-o", program])
+    return program
 
 
 def first_error(outcome: Outcome) -> str:
@@ -30,13 +64,17 @@ class CppBench(Bench):
         self.archive = archive
         self.det = programs.path("det")
 
-    def command(self, words: Sequence[Word]) -> Outcome:
+    def command(
+        self, words: Sequence[Word], environment: Optional[dict[str, str]] = None
+    ) -> Outcome:
         """Runs a command, whatever status it ends with."""
-        return run(words, self.folder, limit=LIMIT)
+        return run(words, self.folder, environment, limit=LIMIT)
 
-    def output_of(self, words: Sequence[Word]) -> bytes:
+    def output_of(
+        self, words: Sequence[Word], environment: Optional[dict[str, str]] = None
+    ) -> bytes:
         """What a command writes that has to end well."""
-        given = self.command(words)
+        given = self.command(words, environment)
         assert not given.status, f"{words[0]} ends with {given.status}: {first_error(given)}"
         return given.out
 
@@ -44,10 +82,16 @@ class CppBench(Bench):
         self, compiler: str, sources: Sequence[str], name: str, flags: Sequence[str]
     ) -> Path:
         """A program of these sources and the library."""
+        need(compiler)
         program = self.folder / name
         files = [SOURCES / source for source in sources]
         self.output_of([compiler, *flags, *files, self.archive, "-pthread", "-o", program])
         return program
+
+    def example_program(self, name: str) -> Path:
+        """The program of an example, which is compiled once for all tests of a group."""
+        program = self.folder / f"example_{name}"
+        return program if program.exists() else compile_example(name, self.archive, program)
 
     def check_lines(self, words: Sequence[Word]) -> None:
         """Runs a test program, which prints `ok NAME` or `FAILED NAME: WHY` for each of its tests.

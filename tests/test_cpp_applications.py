@@ -1,4 +1,5 @@
-"""Shipped jobs written as C++ applications: their records are those that `det record` writes.
+"""Shipped jobs written as C++ applications with loops of their own over the class: their records
+are those that `det record` writes. test_cpp_jobs.py has them as jobs.
 
 They need g++.
 """
@@ -11,7 +12,7 @@ from pathlib import Path
 
 import pytest
 
-from commands import TOP, difference
+from commands import difference
 from cpp_bench import CPP, CppBench
 
 SEED = 9
@@ -114,20 +115,3 @@ def test_genuine(application: Application, cpp: CppBench) -> None:
     runs = [line.split() for line in text.split("\n") if line.startswith("run ")]
     times = [int(words[3]) for words in runs if words[3] != "-"]
     assert any(time >= FAR_TIME for time in times) and f"run {cycles} " in text
-
-
-@pytest.mark.slow
-def test_example(cpp: CppBench) -> None:
-    """The example is built by its one command, its copies agree, and det shows its record."""
-    program = cpp.folder / "tracker"
-    source = TOP / "examples" / "cpp" / "tracker.cpp"
-    flags = ["-std=c++17", "-O2", "-Wall", "-Wextra", "-Werror", f"-I{TOP / 'include'}"]
-    cpp.output_of(["g++", *flags, source, cpp.archive, "-pthread", "-o", program])
-    records = []
-    for workers in (1, 4, 64):
-        records.append(cpp.file(f"tracker{workers}.rec", cpp.output_of([program, workers])))
-    assert cpp.output_of([cpp.det, "compare", *records]) == b"agree 50\n"
-    lines = cpp.output_of([cpp.det, "show", records[0]]).decode().split("\n")
-    assert "job 77" in lines
-    assert sum(line.startswith("finished 1000") for line in lines) == 50
-    assert cpp.command([program, 65]).status == 1, "65 workers aren't refused"

@@ -6,60 +6,88 @@ They need g++, gcc, clang++ and binutils.
 from __future__ import annotations
 
 import re
+import shutil
 from pathlib import Path
 
 import pytest
 
 from commands import TOP, run
-from cpp_bench import C, CPP, INCLUDE, LIMIT, SOURCES, CppBench
+from cpp_bench import C, CORE, CPP, EXAMPLES, INCLUDE, SOURCES, CppBench, need
 
-C_HEADERS = ("det_client", "det_record")
-ARM = "aarch64-unknown-linux-gnu"
-HEADERS = sorted((INCLUDE / "ara" / "exec").glob("*.h"))
-# The compilers and their flags, under which a header has to compile by itself.
+# A job and its program, so that templates are compiled too.
+JOB = """using namespace det::exec;
+class Least final : public Job<std::int64_t> {
+ public:
+  static constexpr char const* kName = "least";
+  static constexpr std::uint16_t kNumber = 1;
+  void Init(Start<Least>& start) const { start.Resize(5); }
+  void Run(Cycle<Least>& cycle) const {
+    (void)cycle.Pass([](std::int64_t& element, WorkerThread&) { ++element; });
+  }
+};
+int main(int count, char** words) { return Main<Least, TimerSource>(count, words); }
+"""
+HEADERS = sorted((INCLUDE / "det" / "exec").glob("*.h"))
+# What can be compiled in C, where version.h has no namespace.
+C_HEADERS = [it for it in HEADERS if it.stem.startswith("det_") or it.stem == "version"]
+# The compilers and their flags.
 WAYS = [
-    (compiler, standard, (*CPP, f"-std={standard}", "-Wshadow", "-Wconversion"))
+    (compiler, (*CPP, f"-std={standard}", *more))
     for compiler in ("g++", "clang++")
     for standard in ("c++17", "c++20")
+    for more in ((), ("-fno-exceptions", "-fno-rtti"), CORE)
 ]
-ALONE = [(header, *way) for header in HEADERS for way in WAYS]
-ALONE += [(header, "gcc", "c11", C) for header in HEADERS if header.stem in C_HEADERS]
+ADAPTER = sorted((INCLUDE / "ara" / "exec").glob("*.h"))
+ALONE = [(it, "g++", (*CPP, *CORE)) for it in (*HEADERS, *ADAPTER)]
+ALONE += [(it, "gcc", C) for it in C_HEADERS]
 
 
 @pytest.mark.parametrize(
-    "header, compiler, standard, flags",
+    "header, compiler, flags",
     ALONE,
-    ids=[f"{it[0].name}, {it[1]}, {it[2]}" for it in ALONE],
+    ids=[f"{it[0].relative_to(INCLUDE)}, {it[1]}" for it in ALONE],
 )
-def test_header(
-    header: Path, compiler: str, standard: str, flags: tuple[str, ...], cpp: CppBench
-) -> None:
+def test_header(header: Path, compiler: str, flags: tuple[str, ...], cpp: CppBench) -> None:
     """A header compiles without another one before it, twice in one file."""
-    include = f'#include "ara/exec/{header.name}"\n'
-    ending = "c" if standard == "c11" else "cpp"
+    need(compiler)
+    include = f'#include "{header.relative_to(INCLUDE)}"\n'
+    ending = "c" if compiler == "gcc" else "cpp"
     source = cpp.file(f"alone.{ending}", f"{include}{include}extern int nothing;\n")
-    cpp.output_of([compiler, *flags, f"-I{SOURCES / 'core'}", "-fsyntax-only", source])
+    cpp.output_of([compiler, *flags, "-fsyntax-only", source])
+
+
+@pytest.mark.parametrize(
+    "compiler, flags", WAYS, ids=[f"{it[0]}, {' '.join(it[1][8:])}" for it in WAYS]
+)
+def test_all_headers(compiler: str, flags: tuple[str, ...], cpp: CppBench) -> None:
+    """All headers compile together, with and without exceptions, RTTI and ara::core."""
+    need(compiler)
+    names = [it.name for it in HEADERS if it.stem != "error_domain" or CORE[0] in flags]
+    text = "".join(f'#include "det/exec/{it}"\n' for it in names)
+    source = cpp.file("all.cpp", f"{text}{JOB}")
+    cpp.output_of([compiler, *flags, "-fsyntax-only", source])
 
 
 # Containers that no pass may be over, by their declarations, and what the compiler has to say.
 ELEMENTS = "the container's elements are to be those of the runnable"
 MISUSED = {
-    "std::list<bool>": "a pass wants a container with random access",
+    "std::list<int>": ELEMENTS,
     "std::vector<bool>": ELEMENTS,
     "std::vector<int>": ELEMENTS,
     "std::array<bool, 3> const": ELEMENTS,
 }
 PASS = """#include <array>
 #include <list>
-#include "ara/exec/deterministic_client.h"
-bool Runs(ara::exec::DeterministicClient& client, ara::exec::WorkerRunnable<bool>& runnable,
+#include <vector>
+#include "det/exec/deterministic_client.h"
+bool Runs(det::exec::DeterministicClient& client, det::exec::WorkerRunnable<bool>& runnable,
           {container}& container) {{
   return client.RunWorkerPool(runnable, container).HasValue();
 }}
 """
 # Numbers in braces, of which the first would be a null pointer, are no parameters of a record.
-BRACES = """#include "ara/exec/recorder.h"
-bool Writes(ara::exec::Recorder& recorder, DetProfile const& profile) {
+BRACES = """#include "det/exec/recorder.h"
+bool Writes(det::exec::Recorder& recorder, DetProfile const& profile) {
   return recorder.Header(profile, {0, 2}).HasValue();
 }
 """
@@ -90,8 +118,9 @@ def test_c_surface(cpp: CppBench) -> None:
 @pytest.mark.parametrize("compiler", ("g++", "clang++"))
 def test_core_result(compiler: str, cpp: CppBench) -> None:
     """Results are those of ara::core, where an application has it."""
-    flags = [*CPP, f"-I{SOURCES / 'core'}"]
-    cpp.check_lines([cpp.compile(compiler, ["core_result.cpp"], f"core_{compiler}", flags)])
+    cpp.check_lines(
+        [cpp.compile(compiler, ["core_result.cpp"], f"core_{compiler}", [*CPP, *CORE])]
+    )
 
 
 def test_plugin(cpp: CppBench) -> None:
@@ -111,7 +140,7 @@ def symbols(cpp: CppBench, archive: Path, kind: str) -> set[str]:
 
 def functions_of_headers() -> set[str]:
     """The functions that the C headers declare."""
-    text = "".join((INCLUDE / "ara" / "exec" / f"{name}.h").read_text() for name in C_HEADERS)
+    text = "".join(it.read_text() for it in C_HEADERS)
     return set(re.findall(r"\b(det_\w+)\(", text))
 
 
@@ -135,26 +164,92 @@ def test_whole_archive(cpp: CppBench) -> None:
 
 
 def test_heap_source(cpp: CppBench) -> None:
-    """The C source of the library compiles without a warning."""
-    source = TOP / "cpp" / "rattle_heap.c"
-    output = cpp.folder / "heap.o"
-    cpp.output_of(["gcc", *C, "-Wmissing-prototypes", "-c", source, "-o", output])
+    """The C sources of the library compile without a warning."""
+    for source in (TOP / "cpp").glob("*.c"):
+        output = cpp.folder / f"{source.stem}.o"
+        cpp.output_of(["gcc", *C, "-Wmissing-prototypes", "-c", source, "-o", output])
+
+
+def defined(cpp: CppBench, name: str, flags: tuple[str, ...] = ()) -> set[str]:
+    """The names that the object of a source defines."""
+    need("g++", "nm")
+    output = cpp.folder / f"{name}.o"
+    cpp.output_of(["g++", *CPP, *flags, "-c", SOURCES / f"{name}.cpp", "-o", output])
+    text = cpp.output_of(["nm", output]).decode()
+    return set(re.findall(r"^[0-9a-f]{16} [TWVBDRu] (\S+)$", text, re.MULTILINE))
+
+
+def test_adapter(cpp: CppBench) -> None:
+    """An application that was written for a vendor's stack runs over the adapter, unchanged: for
+    each number of workers it ends with the same elements."""
+    flags = [*CPP, *CORE]
+    program = cpp.compile("g++", ["vendor_application.cpp"], "vendor_application", flags)
+    sums = set()
+    for workers in (1, 4, 16):
+        text = f"job = 'any'\ncycle_time_ns = 1000000\nworkers = {workers}\nparams = []\n"
+        environment = {"DET_MANIFEST": cpp.file("any.toml", text), "DET_CYCLES": "20"}
+        sums.add(cpp.output_of([program], environment))
+    assert len(sums) == 1 and sums.pop().startswith(b"sum "), sums
+    given = cpp.command([program], {"DET_MANIFEST": "/nosuch"})
+    assert (given.status, given.out) == (1, b"error: bad cycle time\n")
+
+
+def test_beside_a_vendor(cpp: CppBench) -> None:
+    """The client works beside a vendor's library in one process: they share no symbol."""
+    sources = ["vendor_beside.cpp", "vendor_library.cpp"]
+    program = cpp.compile("g++", sources, "vendor_beside", [*CPP, *CORE])
+    assert cpp.output_of([program]) == b"ours right, the vendor's 42\n"
+    ours = defined(cpp, "vendor_beside", CORE)
+    assert ours and not ours & defined(cpp, "vendor_library")
+
+
+def test_both_headers(cpp: CppBench) -> None:
+    """A source file with the adapter and a vendor's header isn't compiled."""
+    vendor = (SOURCES / "vendor_library.cpp").read_text()
+    text = f"{vendor}#include <ara/exec/deterministic_client.h>\n"
+    source = cpp.file("both.cpp", f"{text}ara::exec::DeterministicClient* both;\n")
+    given = cpp.command(["g++", *CPP, *CORE, "-fsyntax-only", source])
+    text = given.err.decode(errors="replace")
+    assert re.search(r"reference to .DeterministicClient. is ambiguous", text), text
+
+
+def test_other_layout(cpp: CppBench) -> None:
+    """An object of another layout doesn't link with the library."""
+    include = cpp.folder / "include"
+    shutil.copytree(INCLUDE, include)
+    for header in (include / "det" / "exec").glob("*.h"):
+        text = header.read_text().replace("det_layout_1", "det_layout_2")
+        header.write_text(text.replace("define DET_LAYOUT 1", "define DET_LAYOUT 2"))
+    words = ["g++", "-std=c++17", f"-I{include}", EXAMPLES / "buggy.cpp", cpp.archive, "-pthread"]
+    given = cpp.command([*words, "-o", cpp.folder / "other"])
+    assert given.status and b"det_layout_2" in given.err, str(given)
+
+
+def test_two_ways(cpp: CppBench) -> None:
+    """Sources that were compiled with and without exceptions don't link."""
+    header = '#include "det/exec/recorder.h"\n'
+    name = "det::exec::Result<void> Writes(det::exec::Recorder& recorder)"
+    one = cpp.file("one.cpp", f"{header}{name} {{ return recorder.Register(); }}\n")
+    calls = "  det::exec::Recorder* recorder = nullptr;\n  return Writes(*recorder) ? 0 : 1;\n"
+    other = cpp.file("other.cpp", f"{header}{name};\nint main() {{\n{calls}}}\n")
+    for source, more in ((one, "-fexceptions"), (other, "-fno-exceptions")):
+        cpp.output_of(["g++", *CPP, more, "-c", source, "-o", f"{source}.o"])
+    given = cpp.command(["g++", f"{one}.o", f"{other}.o", cpp.archive, "-o", cpp.folder / "two"])
+    assert given.status and b"undefined reference" in given.err, str(given)
+
+
+def test_version(cpp: CppBench) -> None:
+    """The headers, the library and the Makefile have one version."""
+    text = (INCLUDE / "det" / "exec" / "version.h").read_text()
+    version = re.search(r'DET_VERSION_TEXT "(.*)"', text)
+    assert version and f"VERSION = {version[1]}\n" in (TOP / "Makefile").read_text()
+    checks = "int main(void) { return det_library_version() == DET_VERSION ? 0 : 1; }\n"
+    source = cpp.file("version.c", f'#include "det/exec/version.h"\n{checks}')
+    program = cpp.folder / "version"
+    cpp.output_of(["gcc", *C, source, cpp.archive, "-o", program])
+    cpp.output_of([program])
 
 
 def test_unknown_target() -> None:
     given = run([TOP / "bin" / "build_library", "--target", "avr"], TOP)
     assert (given.status, given.out) == (2, b"")
-
-
-@pytest.mark.slow
-def test_arm(cpp: CppBench, pytestconfig: pytest.Config) -> None:
-    """The library is built for AArch64. It isn't run."""
-    if not pytestconfig.getoption("prove"):
-        pytest.skip("the library for AArch64 is built with its proofs, by --prove")
-    given = run([TOP / "bin" / "build_library", "--target", ARM], TOP, limit=LIMIT)
-    assert given.status == 0, given.err.decode().strip().split("\n")[-1]
-    archive = Path(given.out.decode().split("\n")[-2])
-    assert symbols(cpp, archive, "T") == functions_of_headers()
-    formats = cpp.output_of(["objdump", "-a", archive]).decode()
-    found = set(re.findall(r"file format (\S+)", formats))
-    assert found in ({"elf64-littleaarch64"}, {"elf64-little"})

@@ -10,7 +10,7 @@ import pytest
 from cpp_bench import CPP, CppBench
 
 PROGRAMS = ("words", "blocks", "life", "windows", "pools", "throwing", "threads", "memory")
-PROGRAMS += ("recording",)
+PROGRAMS += ("recording", "engine", "parts", "total")
 BUILDS = {
     "optimized": ("g++", ("-O2",)),
     "clang": ("clang++", ("-O2",)),
@@ -18,7 +18,7 @@ BUILDS = {
     "thread": ("g++", ("-O1", "-g", "-fsanitize=thread")),
 }
 # Sources with no threads of their own, for which one sanitizer is enough.
-SEQUENTIAL = ("words", "blocks", "windows")
+SEQUENTIAL = ("words", "blocks", "windows", "total")
 BUILT = [
     pytest.param(program, build, id=f"{program}, {build}")
     for build in BUILDS

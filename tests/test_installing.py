@@ -10,7 +10,7 @@ import pytest
 from commands import NAMES, TOP, Bench, Outcome, Programs, run
 
 PREFIX = "/opt/of det"
-OWN_FOLDERS = ("share/det", "share/doc/det", "include/ara")
+OWN_FOLDERS = ("share/det", "share/doc/det", "include/det", "lib/cmake/deterministic_client")
 OTHER = "share/man/man1/other.1"
 LIBRARY = "lib/libdeterministic_client.a"
 
@@ -27,9 +27,12 @@ def files_of_package() -> list[str]:
     found = [f"bin/{it}" for it in NAMES] + [f"share/man/man1/{it}.1" for it in NAMES]
     documents = ("README.md", "docs/FORMATS.md", "examples/bank.toml")
     found += [f"share/doc/det/{it}" for it in documents]
-    headers = [path.name for path in (TOP / "include/ara/exec").glob("*.h")]
     found += [LIBRARY, "lib/pkgconfig/deterministic_client.pc"]
-    found += [f"include/ara/exec/{it}" for it in headers]
+    package = "lib/cmake/deterministic_client/deterministic_client-config"
+    found += [f"{package}.cmake", f"{package}-version.cmake"]
+    found += [f"include/det/exec/{it.name}" for it in (TOP / "include/det/exec").glob("*.h")]
+    adapter = (TOP / "include/ara/exec").glob("*.h")
+    found += [f"include/det/adapter/ara/exec/{it.name}" for it in adapter]
     return found + ["bin/det_record", "bin/det_view"]
 
 
@@ -53,7 +56,8 @@ def test_install_and_uninstall(bench: Bench, library: Path) -> None:
     """Installed files have their modes and run; removed, they and their own folders are gone."""
     assert library.is_file()
     root = Path(str(bench.folder) + PREFIX)
-    first = run_installer(bench.programs, bench.folder, "--version", "0.1.0", umask=0o077)
+    words = ["--version", "0.1.0", "--library", str(library)]
+    first = run_installer(bench.programs, bench.folder, *words, umask=0o077)
     assert not first.status, str(first)
     assert not wrong_modes(root)
     assert [it for it in files_of_package() if not (root / it).is_file()] == []
@@ -64,6 +68,31 @@ def test_install_and_uninstall(bench: Bench, library: Path) -> None:
     assert not second.status, str(second)
     assert [str(it.relative_to(root)) for it in root.rglob("*") if it.is_file()] == [OTHER]
     assert [it for it in OWN_FOLDERS if (root / it).exists()] == []
+
+
+def test_folders(bench: Bench, library: Path) -> None:
+    """LIBDIR, INCLUDEDIR and MANDIR move their files, and nothing is left of them."""
+    root = Path(str(bench.folder) + PREFIX)
+    words = ["--libdir", "lib/of machine", "--includedir", f"{PREFIX}/inc", "--mandir", "man"]
+    words += ["--only-library", "--library", str(library)]
+    first = run_installer(bench.programs, bench.folder, *words)
+    assert not first.status, str(first)
+    assert (root / "lib/of machine/libdeterministic_client.a").read_bytes() == library.read_bytes()
+    assert (root / "inc/det/exec/version.h").is_file() and not (root / "bin").exists()
+    text = (root / "lib/of machine/pkgconfig/deterministic_client.pc").read_text()
+    assert "prefix=${pcfiledir}/../../..\n" in text and "includedir=${prefix}/inc\n" in text
+    second = run_installer(bench.programs, bench.folder, "--uninstall")
+    assert not second.status, str(second)
+    assert [it for it in root.rglob("*") if it.is_file()] == []
+    assert not (root / "inc/det").exists() and not (root / "lib/of machine/cmake/det").exists()
+
+
+@pytest.mark.parametrize("folder_word", ("--libdir", "--includedir", "--mandir"))
+def test_folder_outside(folder_word: str, programs: Programs, folder: Path) -> None:
+    """A folder that isn't below the prefix is refused."""
+    for name in ("/usr/lib", "..", "."):
+        given = run_installer(programs, folder, folder_word, name)
+        assert given.status == 1 and b"isn't below" in given.err, str(given)
 
 
 def test_missing_program(programs: Programs, folder: Path) -> None:

@@ -29,11 +29,13 @@ COMPILED = """define internal i32 @main() {{
 define noundef zeroext i8 @det_of_{0}(ptr noundef %a0) #0 {{
   %r1 = call i8 @det_of_{0}(ptr %r0)
 """
-COMPILED_ALL = "".join(COMPILED.format(crate) for crate in CRATES) + "heap\n"
+# What it makes of the C sources.
+OBJECTS = "rattle_heap\nlibrary_version\n"
+COMPILED_ALL = "".join(COMPILED.format(crate) for crate in CRATES) + OBJECTS
 
 
 def proved_archive(target: str) -> str:
-    return "".join(f"proved {crate} for {target}\n" for crate in CRATES) + "heap\n"
+    return "".join(f"proved {crate} for {target}\n" for crate in CRATES) + OBJECTS
 
 
 class LibraryRepository(SmallRepository):
@@ -41,7 +43,8 @@ class LibraryRepository(SmallRepository):
 
     def __init__(self, folder: Path) -> None:
         super().__init__(folder)
-        self.write("cpp/rattle_heap.c")
+        for name in ("cpp/rattle_heap.c", "cpp/library_version.c", "include/det/exec/version.h"):
+            self.write(name)
         with open(self.folder / "crates.txt", "a") as lines:
             lines.writelines(f"{crate} staticlib: low\n" for crate in CRATES)
         for crate in CRATES:
@@ -91,13 +94,21 @@ def test_library_after_gate(repository: LibraryRepository) -> None:
     repository.write("out/proved")
     first = repository.build("--prove")
     assert first.status == 0, str(first)
-    assert repository.archive() == "over the gate\n" * 2 + "heap\n"
+    assert repository.archive() == "over the gate\n" * 2 + OBJECTS
     assert not repository.calls("rt lib")
     time.sleep(0.05)
     repository.write("crates/low/src/lib.rt")
     second = repository.build("--prove")
     assert repository.archive() == proved_archive(HOST), str(second)
     assert repository.calls("rt lib") == 2
+
+
+def test_new_version(repository: LibraryRepository) -> None:
+    """The library is built again after a change of the header with its version."""
+    repository.build()
+    time.sleep(0.05)
+    repository.write("include/det/exec/version.h")
+    assert repository.build().err == COMPILED_LINE
 
 
 def test_other_target(repository: LibraryRepository) -> None:

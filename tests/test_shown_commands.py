@@ -15,10 +15,11 @@ from documents import documents, name_of
 
 TUTORIAL = TOP / "docs" / "TUTORIAL.md"
 README = TOP / "README.md"
+CPP_PAGE = TOP / "docs" / "CPP.md"
 CONSOLE = [path for path in documents() if "\n```console\n" in path.read_text()]
 # Beginnings of lines of the README that aren't run here: they build, install or run tests.
 NOT_RUN = ("rt ", "make", "bin/build_library", "sudo ", "git ")
-NOT_RUN += ("python3 -m pytest", "python3 tests/", "python3 bench/")
+NOT_RUN += ("python3 -m pytest", "python3 tests/", "python3 bench/", "cmake ")
 COMPILER = "g++"
 # Words of a remark that the command has to print.
 PRINTED = ("agree", "genuine", "terminate")
@@ -109,3 +110,21 @@ def test_readme_over_library(bench: Bench, library: Path) -> None:
     """The commands that compile an application, or run it."""
     link_top(bench, library)
     check_lines(readme_lines()[1], bench)
+
+
+def test_page_of_cpp(bench: Bench, library: Path) -> None:
+    """The commands of docs/CPP.md that build its tracker and use it."""
+    beginnings = (f"{COMPILER} -std=c++17 -O2 ", "out/", "bin/")
+    lines = [it for it in lines_of(CPP_PAGE) if it.command.startswith(beginnings)]
+    lines = [it for it in lines if not it.command.startswith(NOT_RUN)]
+    assert len(lines) > 5
+    link_top(bench, library)
+    check_lines(lines, bench)
+
+
+def test_tracker_of_the_page() -> None:
+    """docs/CPP.md shows the tracker of examples/cpp."""
+    page, source = CPP_PAGE.read_text(), (TOP / "examples" / "cpp" / "tracker.cpp").read_text()
+    shown = page.split("```cpp\n")[1].split("```")[0]
+    parts = [part for part in shown.split("\n\n") if part.strip()]
+    assert [part for part in parts if part.strip("\n") not in source] == []

@@ -4,10 +4,13 @@
     python3 tools/install.py --version 0.1.0 --prefix /usr/local     what `make install` does
     python3 tools/install.py --uninstall --prefix /usr/local         what `make uninstall` does
     .. --destdir FOLDER                                              below that folder
+    .. --libdir lib/x86_64-linux-gnu --includedir .. --mandir ..     folders below the prefix
+    .. --only-library --library ARCHIVE                              as for another target
 
-It builds nothing, and copies nothing where a file is missing: `make` makes them all. What was
-installed is listed in PREFIX/share/det/installed, by which it is removed. Python's standard library
-is all that it needs.
+It builds nothing, and copies nothing if a file is missing: `make` makes them all. What was
+installed is listed in PREFIX/share/det/installed, by which it is removed. The library's files for
+CMake and pkg-config find the prefix by where they are, so an installation can be moved. It only
+needs Python's standard library.
 """
 
 from __future__ import annotations
@@ -31,9 +34,11 @@ TOOLS = ("det_record", "det_view")
 MODULES = ("tools/det_*.py", "tools/record_*.py", "tools/view/*.py")
 DOCUMENTS = ("README.md", "docs/*.md", "docs/pictures/*")
 LIBRARY = "out/lib/libdeterministic_client.a"
+PACKAGE = "deterministic_client"
+# The headers, and where below INCLUDEDIR they go. The adapter has a folder of its own, so that it
+# hides no vendor's header.
+HEADERS = {"include/det/exec": "det/exec", "include/ara/exec": "det/adapter/ara/exec"}
 LISTED = "share/det/installed"
-# Folders that hold nothing else.
-OWN_FOLDERS = ("share/det", "share/doc/det", "include/ara")
 PROGRAM, DATA, FOLDER = 0o755, 0o644, 0o755
 
 
@@ -48,6 +53,28 @@ class Copy:
     to: str
     data: bytes
     mode: int = DATA
+
+
+@dataclass(frozen=True)
+class Places:
+    """The folders below the prefix, by their names in GNUInstallDirs."""
+
+    libdir: str
+    includedir: str
+    mandir: str
+
+    def own_folders(self) -> list[str]:
+        """Folders that hold nothing else."""
+        own = ["share/det", "share/doc/det", f"{self.includedir}/det"]
+        return [*own, f"{self.libdir}/cmake/{PACKAGE}"]
+
+
+def below(prefix: str, folder: str) -> str:
+    """A folder as a path below the prefix."""
+    path = os.path.relpath(os.path.join(prefix, folder), prefix)
+    if path == "." or path.startswith(".."):
+        raise Refused(f"{folder} isn't below {prefix}")
+    return path
 
 
 def source(name: str) -> bytes:
@@ -89,8 +116,8 @@ def programs(folder: Optional[Path]) -> list[Copy]:
     return [Copy(f"bin/{it}", source(str(file)), PROGRAM) for it, file in files.items()]
 
 
-def manuals() -> list[Copy]:
-    return [Copy(f"share/man/man1/{it}.1", source(f"docs/{it}.1")) for it in PROGRAMS]
+def manuals(places: Places) -> list[Copy]:
+    return [Copy(f"{places.mandir}/man1/{it}.1", source(f"docs/{it}.1")) for it in PROGRAMS]
 
 
 def documents() -> list[Copy]:
@@ -110,26 +137,51 @@ def tools(prefix: str) -> list[Copy]:
     return calls + [Copy(f"share/det/{name}", source(name)) for name in names]
 
 
-def library(prefix: str, version: str) -> list[Copy]:
-    """The static library with its headers and the file for pkg-config."""
-    headers = files_like("include/ara/exec/*.h")
+def package_file(template: str, to: str, places: Places, version: str) -> Copy:
+    """A file by which a build finds the library, with paths from its own folder."""
+    values = {
+        "VERSION": version,
+        "TO_PREFIX": os.path.relpath(".", os.path.dirname(to)),
+        "LIBDIR": places.libdir,
+        "INCLUDEDIR": places.includedir,
+    }
+    text = source(template).decode()
+    for name, value in values.items():
+        text = text.replace(f"@{name}@", value)
+    return Copy(to, text.encode())
+
+
+def library(places: Places, version: str, archive: str) -> list[Copy]:
+    """The static library with its headers, and the files for CMake and pkg-config."""
+    headers = {
+        name: f"{places.includedir}/{folder}/{Path(name).name}"
+        for source_folder, folder in HEADERS.items()
+        for name in files_like(f"{source_folder}/*.h")
+    }
     if not headers:
-        raise Refused("include/ara/exec has no headers")
-    template = source("cpp/deterministic_client.pc.in").decode()
-    text = template.replace("@PREFIX@", prefix).replace("@VERSION@", version)
+        raise Refused("include/det/exec has no headers")
+    to = {
+        f"cpp/{PACKAGE}.pc.in": f"{places.libdir}/pkgconfig/{PACKAGE}.pc",
+        f"cpp/{PACKAGE}-config.cmake.in": f"{places.libdir}/cmake/{PACKAGE}/{PACKAGE}-config.cmake",
+        f"cpp/{PACKAGE}-config-version.cmake.in": f"{places.libdir}/cmake/{PACKAGE}/"
+        f"{PACKAGE}-config-version.cmake",
+    }
     return [
-        Copy("lib/libdeterministic_client.a", source(LIBRARY)),
-        Copy("lib/pkgconfig/deterministic_client.pc", text.encode()),
-        *[Copy(name, source(name)) for name in headers],
+        Copy(f"{places.libdir}/lib{PACKAGE}.a", source(archive)),
+        *[package_file(template, name, places, version) for template, name in to.items()],
+        *[Copy(place, source(name)) for name, place in headers.items()],
     ]
 
 
-def all_copies(prefix: str, version: str, folder: Optional[Path]) -> list[Copy]:
-    """Everything, with the list of it as the last file."""
-    copies = [*programs(folder), *manuals(), *library(prefix, version)]
-    copies += [*tools(prefix), *documents()]
-    listed = "".join(f"{it.to}\n" for it in copies)
-    return [*copies, Copy(LISTED, listed.encode())]
+def all_copies(given: argparse.Namespace, places: Places) -> list[Copy]:
+    """Everything, with the list of it as the last file. In the list, a line that ends with a slash
+    is a folder of its own."""
+    archive = str(given.library.resolve()) if given.library else LIBRARY
+    copies = library(places, given.version, archive)
+    if not given.only_library:
+        copies += [*programs(given.programs), *manuals(places), *tools(given.prefix), *documents()]
+    listed = [it.to for it in copies] + [f"{it}/" for it in places.own_folders()]
+    return [*copies, Copy(LISTED, "".join(f"{it}\n" for it in listed).encode())]
 
 
 def make_folder(folder: Path) -> None:
@@ -155,21 +207,28 @@ def uninstall(root: Path) -> int:
     """Removes what is listed, and folders of its own. Returns how many files were there."""
     if not (root / LISTED).is_file():
         raise Refused(f"{root / LISTED} isn't there, so nothing of this is installed there")
-    names = [*(root / LISTED).read_text().splitlines(), LISTED]
+    lines = (root / LISTED).read_text().splitlines()
+    names = [*(it for it in lines if not it.endswith("/")), LISTED]
     there = [name for name in names if (root / name).is_file()]
     for name in there:
         (root / name).unlink()
-    remove_empty(root, {str(above) for name in names for above in Path(name).parents})
+    own = [it.rstrip("/") for it in lines if it.endswith("/")]
+    remove_empty(root, own, {str(above) for name in names for above in Path(name).parents})
     return len(there)
 
 
-def remove_empty(root: Path, folders: set[str]) -> None:
+def remove_empty(root: Path, own: list[str], folders: set[str]) -> None:
     """Removes those of these folders that are empty and that nothing else is installed in."""
     for name in sorted(folders, reverse=True):
-        is_own = any(name == own or name.startswith(f"{own}/") for own in OWN_FOLDERS)
+        is_own = any(name == it or name.startswith(f"{it}/") for it in own)
         folder = root / name
         if is_own and folder.is_dir() and not any(folder.iterdir()):
             folder.rmdir()
+
+
+def places_of(given: argparse.Namespace) -> Places:
+    names = (given.libdir, given.includedir, given.mandir)
+    return Places(*(below(given.prefix, name) for name in names))
 
 
 def main() -> int:
@@ -178,6 +237,11 @@ def main() -> int:
     parser.add_argument("--prefix", required=True, help="an absolute path")
     parser.add_argument("--destdir", default="", help="a folder before the prefix")
     parser.add_argument("--programs", type=Path, help="a folder of other builds of the programs")
+    parser.add_argument("--libdir", default="lib", help="for the library, below the prefix")
+    parser.add_argument("--includedir", default="include", help="for the headers")
+    parser.add_argument("--mandir", default="share/man", help="for the manual pages")
+    parser.add_argument("--library", type=Path, help="another build of the library")
+    parser.add_argument("--only-library", action="store_true", help="no programs, no documents")
     parser.add_argument("--uninstall", action="store_true")
     given = parser.parse_args()
     if not given.prefix.startswith("/"):
@@ -187,9 +251,10 @@ def main() -> int:
         if given.uninstall:
             print(f"removed {uninstall(root)} files below {root}")
         else:
-            copies = all_copies(given.prefix, given.version, given.programs)
+            copies = all_copies(given, places_of(given))
             install(root, copies)
-            print(f"installed {len(copies)} files below {root}: {kinds(given.programs)}")
+            what = "the library" if given.only_library else kinds(given.programs)
+            print(f"installed {len(copies)} files below {root}: {what}")
     except (Refused, OSError) as why:
         print(f"install: {why}", file=sys.stderr)
         return 1

@@ -30,6 +30,7 @@ from pathlib import Path
 from compile import NoModule, compile_library, run_logged
 from crate_list import CRATES, LIST, TOP, listed_crates, needed_by, newest_source, time_of_change
 
+# The crates whose exports are in the library.
 EXPORTING = (
     "det_client_c",
     "det_record_c",
@@ -39,7 +40,9 @@ EXPORTING = (
     "det_verdict_c",
 )
 HOST, ARM = "x86_64-unknown-linux-gnu", "aarch64-unknown-linux-gnu"
-HEAP = TOP / "cpp" / "rattle_heap.c"
+# What is in C: memory, in an object of its own, and the version that the headers ask for.
+C_SOURCES = [TOP / "cpp" / name for name in ("rattle_heap.c", "library_version.c")]
+VERSION_HEADER = TOP / "include" / "det" / "exec" / "version.h"
 OUT = TOP / "out" / "lib"
 GATE = TOP / "out" / "proved"  # as old as the beginning of the gate that passed last
 COMPILED, PROVED = "compiled", "proved"
@@ -70,11 +73,8 @@ class Library:
         if not self.archive.is_file() or not self.made.is_file():
             return False
         crates = {name for it in EXPORTING for name in needed_by(it, listed_crates())}
-        sources = [
-            time_of_change(str(HEAP)),
-            time_of_change(str(LIST)),
-            *map(newest_source, crates),
-        ]
+        files = [*C_SOURCES, VERSION_HEADER, LIST]
+        sources = [*(time_of_change(str(it)) for it in files), *map(newest_source, crates)]
         is_new = max(sources) <= self.archive.stat().st_mtime
         return is_new and (not is_proof or self.made.read_text() == f"{PROVED}\n")
 
@@ -116,12 +116,18 @@ class Library:
             shutil.move(CRATES / crate / "out" / f"lib{crate}.a", work / f"{crate}.a")
         return [work / f"{crate}.a" for crate in EXPORTING]
 
+    def compile_c(self, source: Path, work: Path) -> Path:
+        made = work / f"{source.stem}.o"
+        words = [f"--target={self.target}", "-O2", "-fPIC", f"-I{TOP / 'include'}"]
+        self.run([self.clang, *words, "-c", str(source), "-o", str(made)], work)
+        return made
+
     def merge(self, files: list[Path], work: Path) -> None:
-        """Makes one archive of archives and objects, and of memory from the C library."""
-        heap, merged = work / "rattle_heap.o", work / "merged.a"
-        words = [f"--target={self.target}", "-O2", "-fPIC", "-c", str(HEAP), "-o", str(heap)]
-        self.run([self.clang, *words], work)
-        adds = [f"add{'lib' if it.suffix == '.a' else 'mod'} {it.name}" for it in [*files, heap]]
+        """Makes one archive of archives and of the objects of the C sources."""
+        merged = work / "merged.a"
+        objects = [self.compile_c(source, work) for source in C_SOURCES]
+        names = [*files, *objects]
+        adds = [f"add{'lib' if it.suffix == '.a' else 'mod'} {it.name}" for it in names]
         script = work / "script"
         script.write_text("\n".join([f"create {merged.name}", *adds, "save", "end", ""]))
         self.run(["sh", "-c", f'"{self.kit}/toolchain/bin/llvm-ar" -M < script'], work)

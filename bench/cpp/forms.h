@@ -6,20 +6,20 @@
 #include <optional>
 #include <vector>
 
-#include "ara/exec/deterministic_client.h"
+#include "det/exec/deterministic_client.h"
 #include "plain_client.h"
 
 /// Goes on for ever.
-class Endless final : public ara::exec::ActivationSource {
+class Endless final : public det::exec::ActivationSource {
  public:
-  ara::exec::Activation Next() override { return {}; }
+  det::exec::Activation Next() override { return {}; }
 };
 
 /// The class under measure, by its proved calls.
 struct Proved {
-  using Thread = ara::exec::WorkerThread;
+  using Thread = det::exec::WorkerThread;
   template <typename ValueType>
-  using Runnable = ara::exec::WorkerRunnable<ValueType>;
+  using Runnable = det::exec::WorkerRunnable<ValueType>;
 
   static Thread ThreadOf(std::uint32_t element) {
     DetPassKeys keys;
@@ -37,7 +37,7 @@ struct Proved {
   class Pool {
    public:
     explicit Pool(unsigned workers)
-        : client_(ara::exec::DeterministicClient::Create(source_, 1, workers).Value()) {
+        : client_(det::exec::DeterministicClient::Create(source_, 1, workers).Value()) {
       for (int k = 0; k < 3; ++k) (void)client_.WaitForActivation();
     }
 
@@ -50,7 +50,7 @@ struct Proved {
 
    private:
     Endless source_;
-    ara::exec::DeterministicClient client_;
+    det::exec::DeterministicClient client_;
   };
 };
 

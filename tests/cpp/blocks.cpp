@@ -1,7 +1,7 @@
 // The blocks of a container.
 #include <cstdint>
 
-#include "ara/exec/det_client.h"
+#include "det/exec/det_client.h"
 #include "check.h"
 
 namespace {
@@ -57,7 +57,7 @@ void TheGreatestContainer() {
 int main() {
   check::Test("blocks: each element is in one block", EachElementOnce);
   check::Test("blocks: how many there are", TheirCount);
-  check::Test("blocks: behind the last one all are empty", LaterBlocksAreEmpty);
+  check::Test("blocks: all are empty after the last one", LaterBlocksAreEmpty);
   check::Test("blocks: the last one of 2^32 - 1 elements", TheGreatestContainer);
   return check::Status();
 }

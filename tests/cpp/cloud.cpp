@@ -1,15 +1,15 @@
-// The job `cloud` (docs/FORMATS.md) written as an application. Its record is to be the one that
-// `det record` writes, byte for byte.
+// The job `cloud` (docs/FORMATS.md) as an application with a loop of its own. Its record is to be the
+// one that `det record` writes, byte for byte.
 //
 //     cloud STIMULUS SEED WORKERS COUNT SPREAD RESEED FAR
 #include <algorithm>
 #include <cstdlib>
 #include <optional>
 
-#include "ara/exec/spelling.h"
+#include "det/exec/spelling.h"
 #include "stimulus.h"
 
-using namespace ara::exec;
+using namespace det::exec;
 
 namespace {
 
@@ -108,7 +108,7 @@ class Cloud final : public Application {
   }
 
  private:
-  /// The passes of a cycle. False where the nearest particle is too far away behind them.
+  /// The passes of a cycle. False if the nearest particle is too far away after them.
   bool Moved(DeterministicClient& client) {
     if (params_.reseed != 0 && client.Cycle() % params_.reseed == 0) {
       client.SetRandomSeed(client.GetRandom());
@@ -129,7 +129,7 @@ class Cloud final : public Application {
     });
   }
 
-  std::vector<DetElement> Spelled(std::vector<std::uint32_t> const& draws) const {
+  std::vector<DetElement> Spelled(Span<std::uint32_t const> draws) const {
     std::vector<DetElement> elements(particles_.size());
     for (std::size_t i = 0; i < elements.size(); ++i) {
       Particle const& particle = particles_[i];

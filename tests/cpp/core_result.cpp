@@ -1,12 +1,12 @@
 // Results as those of ara::core, over the least of its headers.
 #include <string>
 
-#include "ara/exec/recorder.h"
+#include "det/exec/recorder.h"
 #include "check.h"
 #include "script.h"
 #include "sinks.h"
 
-using namespace ara::exec;
+using namespace det::exec;
 
 namespace {
 

@@ -1,5 +1,5 @@
-// The job `guard` (docs/FORMATS.md) written as an application, which refuses cycles in its pass.
-// Its record is to be the one that `det record` writes, byte for byte.
+// The job `guard` (docs/FORMATS.md) as an application with a loop of its own, which refuses cycles
+// in its pass. Its record is to be the one that `det record` writes, byte for byte.
 //
 //     guard STIMULUS SEED WORKERS CHANNELS LOW HIGH LIMIT MOST
 #include <atomic>
@@ -7,10 +7,10 @@
 #include <limits>
 #include <optional>
 
-#include "ara/exec/spelling.h"
+#include "det/exec/spelling.h"
 #include "stimulus.h"
 
-using namespace ara::exec;
+using namespace det::exec;
 
 namespace {
 

@@ -7,7 +7,7 @@
 #include "reference.h"
 #include "script.h"
 
-using namespace ara::exec;
+using namespace det::exec;
 
 namespace {
 
@@ -194,7 +194,7 @@ int main() {
   check::Test("life: the class answers the same", TheClass);
   check::Test("life: time stamps, and times that none can hold", TheTimeStamps);
   check::Test("life: Create refuses cycle times and numbers of workers", WhatCreateRefuses);
-  check::Test("life: the class tells the limit of cycles", TheLimitOfTheClass);
+  check::Test("life: the class reports the limit of cycles", TheLimitOfTheClass);
   check::Test("life: a moved client goes on", AMovedClient);
   return check::Status();
 }

@@ -1,11 +1,11 @@
-// Every request for memory refused in turn: those of the proved code, whose three functions the
-// test defines itself, and those of the headers, by operator new.
+// Every request for memory refused in turn: those of the headers, by operator new. The proved code
+// makes none; its three functions, which the test defines itself, would count one.
 #include <cstdlib>
 #include <cstring>
 #include <new>
 
-#include "ara/exec/recorder.h"
-#include "ara/exec/spelling.h"
+#include "det/exec/recorder.h"
+#include "det/exec/spelling.h"
 #include "check.h"
 #include "script.h"
 
@@ -13,13 +13,13 @@ namespace {
 
 /// Requests that are granted before one is refused, or before all are; none where it is negative.
 long granted = -1;
-bool all_behind = false;
+bool all_after = false;
 long requests = 0;
 
 bool Refused() {
   ++requests;
   if (granted < 0) return false;
-  return all_behind ? requests > granted : requests == granted + 1;
+  return all_after ? requests > granted : requests == granted + 1;
 }
 
 void* Taken(std::size_t size) { return Refused() ? nullptr : std::malloc(size); }
@@ -57,7 +57,7 @@ void operator delete(void* block, std::size_t) noexcept { std::free(block); }
 void operator delete[](void* block) noexcept { std::free(block); }
 void operator delete[](void* block, std::size_t) noexcept { std::free(block); }
 
-using namespace ara::exec;
+using namespace det::exec;
 
 namespace {
 
@@ -110,7 +110,7 @@ constexpr std::size_t kCount = 300;
 std::uint64_t elements[kCount];
 DetElement spelled[kCount];
 
-void Spell(std::vector<std::uint32_t> const& draws) {
+void Spell(Span<std::uint32_t const> draws) {
   for (std::size_t i = 0; i < kCount; ++i) {
     spelled[i] = DetElement{};
     Spelling(spelled[i]).U64(elements[i]);
@@ -184,9 +184,9 @@ bool SameRecord() {
 }
 
 /// Runs with the requests as given, and answers how it ended.
-Ended RunWith(long grants, bool behind, Fixed& sink) {
+Ended RunWith(long grants, bool all, Fixed& sink) {
   granted = grants;
-  all_behind = behind;
+  all_after = all;
   requests = 0;
   Ended const ended = Run(sink);
   granted = -1;
@@ -200,14 +200,14 @@ long Requests() {
 
 void OneRefused() {
   long const count = Requests();
-  CHECK(count > 30);
+  CHECK(count > 5);
   for (long k = 0; k < count; ++k) {
     Ended const ended = RunWith(k, false, tried);
     CHECK(ended.whole && ended.wanting == 1 && SameRecord());
   }
 }
 
-void AllBehindRefused() {
+void AllLaterRefused() {
   long const count = Requests();
   for (long k = 0; k < count; ++k) {
     Ended const ended = RunWith(k, true, tried);
@@ -222,6 +222,6 @@ void AllBehindRefused() {
 
 int main() {
   check::Test("memory: one request refused, and the call made again", OneRefused);
-  check::Test("memory: all requests refused from one on", AllBehindRefused);
+  check::Test("memory: all requests refused from one on", AllLaterRefused);
   return check::Status();
 }

@@ -1,6 +1,9 @@
 // Passes over containers of every size and kind, with every number of workers.
+#include <algorithm>
 #include <array>
 #include <deque>
+#include <forward_list>
+#include <list>
 #include <memory>
 
 #include "answers.h"
@@ -8,7 +11,7 @@
 #include "reference.h"
 #include "script.h"
 
-using namespace ara::exec;
+using namespace det::exec;
 
 namespace {
 
@@ -28,8 +31,7 @@ class Stir final : public WorkerRunnable<std::uint64_t> {
   }
 };
 
-/// The elements and their draws behind passes of cycle 1, by one loop over the published
-/// generators.
+/// The elements and their draws after passes of cycle 1, by one loop over the published generators.
 struct Wanted {
   std::vector<std::uint64_t> elements;
   std::vector<std::uint32_t> draws;
@@ -56,6 +58,11 @@ void Number(Container& container) {
   for (auto& element : container) element = number++;
 }
 
+bool AreDraws(DeterministicClient const& client, std::vector<std::uint32_t> const& wanted) {
+  auto const draws = client.Draws();
+  return std::equal(draws.begin(), draws.end(), wanted.begin(), wanted.end());
+}
+
 /// Whether passes over a container give what one loop gives.
 template <typename Container>
 bool StirsAs(Wanted const& wanted, Container& container, unsigned workers, int passes) {
@@ -69,7 +76,7 @@ bool StirsAs(Wanted const& wanted, Container& container, unsigned workers, int p
   }
   return std::equal(std::begin(container), std::end(container), wanted.elements.begin(),
                     wanted.elements.end()) &&
-         client.Draws() == wanted.draws;
+         AreDraws(client, wanted.draws);
 }
 
 template <typename Container>
@@ -88,6 +95,75 @@ void OverArrays() {
   Wanted const wanted = Stirred(kCount, 2);
   auto made = std::make_unique<std::array<std::uint64_t, kCount>>();
   for (unsigned workers : {1u, 4u}) CHECK(StirsAs(wanted, *made, workers, 2));
+}
+
+/// A container with only `begin`, `end`, `*` and `++`, which is what the standard asks for.
+class Ring {
+ public:
+  struct At {
+    std::uint64_t* place;
+    std::uint64_t& operator*() const { return *place; }
+    At& operator++() {
+      ++place;
+      return *this;
+    }
+    bool operator!=(At other) const { return place != other.place; }
+  };
+
+  explicit Ring(std::size_t count) : all_(count) {}
+  At begin() { return {all_.data()}; }
+  At end() { return {all_.data() + all_.size()}; }
+  std::vector<std::uint64_t> const& All() const { return all_; }
+
+ private:
+  std::vector<std::uint64_t> all_;
+};
+
+void OverARing() {
+  Script script({{}, {}, {}, {}});
+  DeterministicClient client = ClientInCycle(script, 3);
+  client.SetRandomSeed(kSeed);
+  Ring ring(1000);
+  Number(ring);
+  Stir stir;
+  CHECK(client.Reserve(1000, false) && client.RunWorkerPool(stir, ring));
+  Wanted const wanted = Stirred(1000, 1);
+  CHECK(ring.All() == wanted.elements && AreDraws(client, wanted.draws));
+  Ring many(65537);
+  CHECK(Refuses(client.RunWorkerPool(stir, many), DeterministicErrc::kTooManyElements));
+}
+
+/// A pass whose draws aren't counted is a pass: the next one draws other numbers.
+void UncountedDraws() {
+  Script script({{}, {}, {}, {}});
+  DeterministicClient client = ClientInCycle(script, 2);
+  client.SetRandomSeed(kSeed);
+  std::vector<std::uint64_t> elements(200), others(300);
+  Stir stir;
+  CHECK(client.RunWorkerPool(stir, others, DrawCount::kNone) && client.Draws().empty());
+  CHECK(client.RunWorkerPool(stir, elements) && client.Draws().size() == 200);
+  auto stream = reference::StreamOf(reference::Key(kSeed, 1, 1, 7));
+  CHECK(elements[7] == stream.Next() && client.Draws()[7] == 1);
+}
+
+/// The least element that refuses is reported for each number of workers, and all are run.
+void RefusingElements() {
+  class Refuser final : public WorkerRunnable<std::uint64_t> {
+    void Run(std::uint64_t& element, WorkerThread& thread) override {
+      element += 1;
+      if (thread.Element() % 1000 == 777) thread.Refuse(thread.Element() + 5);
+    }
+  } refuser;
+  for (unsigned workers : {1u, 2u, 4u, 16u}) {
+    Script script({{}, {}, {}, {}});
+    DeterministicClient client = ClientInCycle(script, workers);
+    std::vector<std::uint64_t> elements(5000);
+    CHECK(client.RunWorkerPool(refuser, elements) && client.Refused());
+    CHECK(client.Refused()->element == 777 && client.Refused()->code == 782);
+    CHECK(std::count(elements.begin(), elements.end(), 1) == 5000);
+    Stir stir;
+    CHECK(client.RunWorkerPool(stir, elements) && !client.Refused());
+  }
 }
 
 void OverAnArrayOfC() {
@@ -114,7 +190,7 @@ void EightPasses() {
   Stir stir;
   for (int pass = 0; pass < 8; ++pass) CHECK(client.RunWorkerPool(stir, elements));
   CHECK(Refuses(client.RunWorkerPool(stir, elements), DeterministicErrc::kTooManyPasses));
-  CHECK(elements == wanted.elements && client.Draws() == wanted.draws);
+  CHECK(elements == wanted.elements && AreDraws(client, wanted.draws));
   (void)client.WaitForActivation();
   CHECK(client.Draws().empty() && client.RunWorkerPool(stir, elements));
 }
@@ -205,6 +281,13 @@ int main() {
     OverArrays<65>();
     OverArrays<65536>();
   });
+  check::Test("pools: lists of 0 to 65,536 elements, 1 and 4 workers",
+              [] { OverContainer<std::list<std::uint64_t>>({1, 4}); });
+  check::Test("pools: forward lists of 0 to 65,536 elements, 1 and 4 workers",
+              [] { OverContainer<std::forward_list<std::uint64_t>>({1, 4}); });
+  check::Test("pools: a container with only begin, end, * and ++", OverARing);
+  check::Test("pools: a pass whose draws aren't counted", UncountedDraws);
+  check::Test("pools: the least element that refuses", RefusingElements);
   check::Test("pools: an array of C", OverAnArrayOfC);
   check::Test("pools: 1 to 64 workers", EveryNumberOfWorkers);
   check::Test("pools: eight passes of a cycle, and no ninth", EightPasses);

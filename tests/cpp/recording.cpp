@@ -9,8 +9,8 @@
 #include <sstream>
 #include <string>
 
-#include "ara/exec/recorder.h"
-#include "ara/exec/spelling.h"
+#include "det/exec/recorder.h"
+#include "det/exec/spelling.h"
 #include "answers.h"
 #include "check.h"
 #include "sinks.h"
@@ -32,7 +32,7 @@ extern "C" ssize_t write(int descriptor, void const* bytes, std::size_t count) {
   return syscall(SYS_write, descriptor, bytes, slow_writes && count > 7 ? 7 : count);
 }
 
-using namespace ara::exec;
+using namespace det::exec;
 
 namespace {
 
@@ -204,10 +204,10 @@ void TheGreatestPart() {
         1 + 9 + 4 + 4096 * 10 + 1 + 4 + 65536 * 70 + 4 + 1048576 + 1);
 }
 
-/// Takes so many writes, and fails then.
+/// Takes this many writes, then fails.
 class Full final : public RecordSink {
  public:
-  explicit Full(int writes) : left_(writes) {}
+  explicit Full(int most) : left_(most) {}
   bool Write(std::uint8_t const*, std::size_t) noexcept override { return left_-- > 0; }
   bool Finish() noexcept override { return left_ > 0; }
 

@@ -6,26 +6,26 @@
 #include <utility>
 #include <vector>
 
-#include "ara/exec/deterministic_client.h"
+#include "det/exec/deterministic_client.h"
 
-/// Plays these activations, and stops behind them.
-class Script final : public ara::exec::ActivationSource {
+/// Plays these activations, then stops.
+class Script final : public det::exec::ActivationSource {
  public:
-  explicit Script(std::vector<ara::exec::Activation> given) : given_(std::move(given)) {}
+  explicit Script(std::vector<det::exec::Activation> given) : given_(std::move(given)) {}
 
-  ara::exec::Activation Next() override {
-    return at_ < given_.size() ? given_[at_++] : ara::exec::Activation{true, std::nullopt};
+  det::exec::Activation Next() override {
+    return at_ < given_.size() ? given_[at_++] : det::exec::Activation{true, std::nullopt};
   }
 
  private:
-  std::vector<ara::exec::Activation> given_;
+  std::vector<det::exec::Activation> given_;
   std::size_t at_ = 0;
 };
 
 /// A client that has come to its first cycle, with a time of 0 and a cycle time of 10.
-inline ara::exec::DeterministicClient ClientInCycle(ara::exec::ActivationSource& source,
+inline det::exec::DeterministicClient ClientInCycle(det::exec::ActivationSource& source,
                                                     unsigned workers) {
-  using ara::exec::DeterministicClient;
+  using det::exec::DeterministicClient;
   DeterministicClient client = DeterministicClient::Create(source, 10, workers).Value();
   for (int k = 0; k < 4; ++k) (void)client.WaitForActivation();
   return client;

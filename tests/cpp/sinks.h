@@ -5,10 +5,10 @@
 #include <cstdint>
 #include <vector>
 
-#include "ara/exec/record_sink.h"
+#include "det/exec/record_sink.h"
 
 /// Keeps the bytes.
-class KeptBytes final : public ara::exec::RecordSink {
+class KeptBytes final : public det::exec::RecordSink {
  public:
   bool Write(std::uint8_t const* bytes, std::size_t count) noexcept override {
     kept.insert(kept.end(), bytes, bytes + count);

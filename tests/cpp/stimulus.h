@@ -10,18 +10,18 @@
 #include <string>
 #include <vector>
 
-#include "ara/exec/deterministic_client.h"
-#include "ara/exec/recorder.h"
+#include "det/exec/deterministic_client.h"
+#include "det/exec/recorder.h"
 
-/// Plays the blocks of a stimulus, and stops behind them.
-class Stimulus final : public ara::exec::ActivationSource {
+/// Plays the blocks of a stimulus, then stops.
+class Stimulus final : public det::exec::ActivationSource {
  public:
   explicit Stimulus(char const* path) {
     std::ifstream file(path);
     for (std::string line; std::getline(file, line);) Read(line);
   }
 
-  ara::exec::Activation Next() override {
+  det::exec::Activation Next() override {
     if (opened_ < 3) {
       ++opened_;
       return {};
@@ -63,40 +63,40 @@ class Stimulus final : public ara::exec::ActivationSource {
 template <typename Answer>
 void Need(Answer const& answer) {
   if (answer) return;
-  std::cerr << ara::exec::MessageOf(answer.Error().code) << "\n";
+  std::cerr << det::exec::MessageOf(answer.Error().code) << "\n";
   std::exit(1);
 }
 
 /// Windows of capacity 1, policy last, one for each event.
-inline std::vector<ara::exec::EventWindow> Windows(std::size_t count) {
-  std::vector<ara::exec::EventWindow> windows;
+inline std::vector<det::exec::EventWindow> Windows(std::size_t count) {
+  std::vector<det::exec::EventWindow> windows;
   while (windows.size() < count) {
-    windows.push_back(ara::exec::EventWindow::Create(1).Value());
+    windows.push_back(det::exec::EventWindow::Create(1).Value());
   }
   return windows;
 }
 
 /// Samples arrive, and the cycle ends.
-inline void Turn(std::vector<ara::exec::EventWindow>& windows,
+inline void Turn(std::vector<det::exec::EventWindow>& windows,
                  std::vector<DetSample> const& samples) {
   for (DetSample const& sample : samples) Need(windows[sample.event].Arrive(sample.value));
-  for (ara::exec::EventWindow& window : windows) window.Turn();
+  for (det::exec::EventWindow& window : windows) window.Turn();
 }
 
 /// An application that a stimulus drives: what it does at the third activation and in a cycle.
 class Application {
  public:
   virtual ~Application() = default;
-  virtual void Open(ara::exec::Recorder& recorder) = 0;
-  virtual void Init(ara::exec::Recorder& recorder) = 0;
-  virtual void Run(ara::exec::DeterministicClient& client, ara::exec::CycleInput const& input,
-                   ara::exec::Recorder& recorder) = 0;
+  virtual void Open(det::exec::Recorder& recorder) = 0;
+  virtual void Init(det::exec::Recorder& recorder) = 0;
+  virtual void Run(det::exec::DeterministicClient& client, det::exec::CycleInput const& input,
+                   det::exec::Recorder& recorder) = 0;
 };
 
 /// Runs an application over a stimulus, and writes its record to standard output.
 inline int RunOver(Application& application, Stimulus& stimulus, std::uint64_t seed,
                    unsigned workers) {
-  using namespace ara::exec;
+  using namespace det::exec;
   DeterministicClient client =
       DeterministicClient::Create(stimulus, 10000000, workers).Value();
   client.SetRandomSeed(seed);

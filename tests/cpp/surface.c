@@ -2,8 +2,8 @@
 #include <stdio.h>
 #include <string.h>
 
-#include "ara/exec/det_client.h"
-#include "ara/exec/det_record.h"
+#include "det/exec/det_client.h"
+#include "det/exec/det_record.h"
 
 static int failed = 0;
 

@@ -1,4 +1,4 @@
-// Threads that can't be started, and threads that are left behind. The test stands in for
+// Threads that can't be started, and threads that are left over. The test stands in for
 // pthread_create, and refuses it from a number of calls on.
 #include <dlfcn.h>
 #include <pthread.h>
@@ -30,7 +30,7 @@ extern "C" int pthread_create(pthread_t* thread, pthread_attr_t const* attribute
   return create(thread, attributes, start, argument);
 }
 
-using namespace ara::exec;
+using namespace det::exec;
 
 namespace {
 
@@ -48,7 +48,7 @@ int Threads() {
   return -1;
 }
 
-/// Whether the process comes to have so many threads. One that was joined counts a little longer.
+/// Whether the process comes to have this many threads. A joined one counts a little longer.
 bool ThreadsAre(int wanted) {
   for (int tries = 0; tries < 1000 && Threads() != wanted; ++tries) {
     std::this_thread::sleep_for(std::chrono::milliseconds(2));
@@ -126,7 +126,7 @@ void OneWorker() {
 int main() {
   threads_left = 1;  // a sanitizer starts a thread of its own with the first one
   std::thread([] {}).join();
-  check::Test("threads: one that isn't started is told, and none is left", Refusing);
+  check::Test("threads: one that isn't started is reported, and none is left", Refusing);
   check::Test("threads: fewer give the same elements, where they are allowed", FewerWorkers);
   check::Test("threads: a client's are kept, and end with it", TheThreadsOfAClient);
   check::Test("threads: 200 clients come and go without a pass", ClientsThatDoNothing);

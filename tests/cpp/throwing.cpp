@@ -10,7 +10,7 @@
 #include "reference.h"
 #include "script.h"
 
-using namespace ara::exec;
+using namespace det::exec;
 
 namespace {
 
@@ -42,8 +42,8 @@ std::vector<std::uint64_t> Numbered(std::uint32_t count) {
   return elements;
 }
 
-/// Whether a pass tells the least bad element, ran those before it, and ran or left the others; and
-/// whether the client goes on behind it.
+/// Whether a pass reports the least bad element, ran those before it, and ran or left the others;
+/// and whether the client goes on after it.
 bool TellsTheLeast(std::vector<std::uint32_t> const& bad, std::uint32_t least, unsigned workers) {
   Script script({{}, {}, {}, {}, {}});
   DeterministicClient client = ClientInCycle(script, workers);
@@ -54,7 +54,7 @@ bool TellsTheLeast(std::vector<std::uint32_t> const& bad, std::uint32_t least, u
   for (std::uint32_t i = 0; i < 6000; ++i) {
     bool const ran = elements[i] == Added(i, 1);
     if (!ran && (i <= least || elements[i] != i)) return false;
-    // A thread that is alone claims no block behind the one in which it ended; of 6,000 elements
+    // A single thread claims no block after the one in which it ended; of 6,000 elements
     // a block has 256.
     if (ran && workers == 1 && i / 256 > least / 256) return false;
   }
@@ -91,7 +91,7 @@ class InOrder final : public WorkerRunnable<std::uint64_t> {
     for (int tries = 0; waits && !thrown_ && tries < 5000; ++tries) {
       std::this_thread::sleep_for(std::chrono::milliseconds(2));
     }
-    // A thread that was told goes on a little later, so that it notes its element behind the first.
+    // A thread that waited goes on a little later, so that it notes its element after the first.
     if (waits) std::this_thread::sleep_for(std::chrono::milliseconds(50));
     thrown_ = true;
     throw std::runtime_error("refused");
@@ -142,6 +142,7 @@ void TheContainer() {
   struct Broken {
     std::size_t size() const { return 3; }
     std::uint64_t* begin() { throw std::logic_error("broken"); }
+    std::uint64_t* end() { return nullptr; }
   } broken;
   Script script({});
   DeterministicClient client = ClientInCycle(script, 2);
@@ -168,11 +169,11 @@ void TheSource() {
 
 int main() {
   check::Test("throwing: one element, at several places", OneElement);
-  check::Test("throwing: the least of several elements is told", SeveralElements);
+  check::Test("throwing: the least of several elements is reported", SeveralElements);
   check::Test("throwing: two threads throw in either order", TwoThreadsInEitherOrder);
   check::Test("throwing: every element", EveryElement);
   check::Test("throwing: want of memory in the runnable", WantOfMemoryInTheRunnable);
   check::Test("throwing: the container", TheContainer);
-  check::Test("throwing: the source, and the client goes on behind it", TheSource);
+  check::Test("throwing: the source, and the client goes on after it", TheSource);
   return check::Status();
 }

@@ -3,12 +3,12 @@
 #include <deque>
 #include <vector>
 
-#include "ara/exec/event_window.h"
+#include "det/exec/event_window.h"
 #include "answers.h"
 #include "check.h"
 #include "reference.h"
 
-using namespace ara::exec;
+using namespace det::exec;
 
 namespace {
 
@@ -52,7 +52,7 @@ void AWindowOfFreshOnes() {
   CHECK(Shows(window, {}));
 }
 
-/// What a window shows behind all rounds so far, by the words of docs/FORMATS.md.
+/// What a window shows after all rounds so far, by the words of docs/FORMATS.md.
 struct Model {
   std::size_t capacity;
   WindowPolicy policy;
@@ -68,7 +68,8 @@ struct Model {
 
 void ManyRounds() {
   reference::SplitMix64 chosen{1};
-  for (std::uint16_t capacity : {1, 2, 3, 7, 64, 1023, 1024}) {
+  constexpr std::uint16_t kCapacities[] = {1, 2, 3, 7, 64, 1023, 1024};
+  for (std::uint16_t capacity : kCapacities) {
     for (WindowPolicy policy : {WindowPolicy::kLast, WindowPolicy::kFresh}) {
       EventWindow window = Made(capacity, policy);
       Model model{capacity, policy, {}, {}};

@@ -1,5 +1,5 @@
 // The random words of the C surface, against the published generators.
-#include "ara/exec/det_client.h"
+#include "det/exec/det_client.h"
 #include "check.h"
 #include "reference.h"
 
@@ -17,7 +17,7 @@ void ThePublishedVectors() {
 }
 
 void TheStreamOfKeyZero() {
-  // xoshiro256++ seeded by SplitMix64 from 0, as the crate rand_xoshiro tells it.
+  // xoshiro256++ seeded by SplitMix64 from 0, as the crate rand_xoshiro has it.
   DetRandom random;
   det_random_of_key(&random, 0);
   CHECK(random.draws == 0);
@@ -91,7 +91,7 @@ int main() {
   check::Test("words: keys and words of 2,000 elements", WordsOfManyElements);
   check::Test("words: a million words of one stream", ALongStream);
   check::Test("words: a copied stream goes on as the stream", ACopyIsTheSameStream);
-  check::Test("words: the count of draws stands at its end, and the words go on",
+  check::Test("words: the count of draws stays at its end, and the words go on",
               TheCountStandsAtItsEnd);
   return check::Status();
 }

@@ -1,22 +1,26 @@
-// The errors of ara::exec as an error domain of ara::core, where that is there.
-#ifndef ARA_EXEC_ERROR_DOMAIN_H
-#define ARA_EXEC_ERROR_DOMAIN_H
+// The errors of det::exec as an error domain of ara::core. result.h includes it if
+// DET_EXEC_ARA_CORE is 1.
+#ifndef DET_EXEC_ERROR_DOMAIN_H
+#define DET_EXEC_ERROR_DOMAIN_H
 
 #include <ara/core/error_code.h>
 #include <ara/core/error_domain.h>
 #include <ara/core/exception.h>
 
-#include "ara/exec/result.h"
+#include "det/exec/result.h"
+#include "det/exec/version.h"
 
-namespace ara::exec {
+namespace det::exec {
+inline namespace DET_EXEC_ABI {
 
-/// What the domain's errors are thrown as, by those who want exceptions.
+/// The exception as which `ara::core::ErrorCode::ThrowAsException` throws an error of the domain.
 class DeterministicException : public ara::core::Exception {
  public:
   using ara::core::Exception::Exception;
 };
 
-/// The domain of DeterministicErrc. Its number has bit 63 clear, as those of applications have.
+/// The domain of DeterministicErrc. Its number is this repository's own choice, with bit 63 clear
+/// as the numbers of applications have it.
 class DeterministicErrorDomain final : public ara::core::ErrorDomain {
  public:
   using Errc = DeterministicErrc;
@@ -44,6 +48,7 @@ constexpr ara::core::ErrorCode MakeErrorCode(
                               GetDeterministicErrorDomain(), data);
 }
 
-}  // namespace ara::exec
+}  // namespace DET_EXEC_ABI
+}  // namespace det::exec
 
 #endif

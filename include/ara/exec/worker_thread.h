@@ -1,0 +1,5 @@
+// The standard's header of one name of ara::exec; the adapter has them all in one.
+#ifndef DET_ARA_EXEC_WORKER_THREAD_H
+#define DET_ARA_EXEC_WORKER_THREAD_H
+#include "ara/exec/deterministic_client.h"
+#endif
