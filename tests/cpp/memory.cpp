@@ -1,5 +1,5 @@
-// Every request for memory refused in turn: those of the proved code, whose three functions the
-// test defines itself, and those of the headers, by operator new.
+// Every request for memory refused in turn: those of the headers, by operator new. The proved code
+// makes none; its three functions, which the test defines itself, would count one.
 #include <cstdlib>
 #include <cstring>
 #include <new>
@@ -200,7 +200,7 @@ long Requests() {
 
 void OneRefused() {
   long const count = Requests();
-  CHECK(count > 30);
+  CHECK(count > 5);
   for (long k = 0; k < count; ++k) {
     Ended const ended = RunWith(k, false, tried);
     CHECK(ended.whole && ended.wanting == 1 && SameRecord());
