@@ -111,15 +111,14 @@ pub finished_fields : (kept format : Format) (events : ℕ) (time : DetTime) (sa
       outcome = Finished (map (drawn_in format) elements) output;
     }))
 unfolding IsFrame
-finished_fields kept format events time samples elements output same t e o s =
-    (
-      input_fields events time samples t s.samples,
-      (
-        few_mapped (drawn_in format) elements 65536 s.elements.0,
-        subst (λ (f : Format). All (IsDrawn f) (map (drawn_in f) elements)) same e,
-        (s.output, o),
-      ),
-    )
+finished_fields kept format events time samples elements output same t e o s = (
+  input_fields events time samples t s.samples,
+  (
+    few_mapped (drawn_in format) elements 65536 s.elements.0,
+    subst (λ (f : Format). All (IsDrawn f) (map (drawn_in f) elements)) same e,
+    (s.output, o),
+  ),
+)
 
 pub refused_fields : (format : Format) (events : ℕ) (time : DetTime) (samples : List DetSample) (refusal : DetRefusal)
     → IsTime (time_of time) → refusal.code < 2 ^ 32 → IsSoundRefusal events samples refusal
