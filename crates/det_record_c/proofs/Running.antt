@@ -1,13 +1,12 @@
 -- A cycle that is opened, whose elements are put, and that is closed.
 use Rattle.std.proofs.Common.{◌≡◌, ◌==◌, ℕ, ◌+◌, ◌<◌, ◌≤◌, Bool, true, false, cond, List, [], ◌∷◌, ◌++◌, length, take, refl, sym, ap, subst, ◌∙◌, append_assoc, arith, length-append}
-use Rattle.std.specs.List.{flat_map, All}
+use Rattle.std.specs.List.{flat_map}
 use Rattle.std.proofs.lemmas.List.{append-nil}
 use Rattle.std.proofs.lemmas.List.Elements.{All-push, All-nil}
 use Rattle.std.proofs.lemmas.Grind.{flat_map-append}
 use Rattle.det_values.specs.declared.frames.CycleInput.{CycleInput}
 use Rattle.det_values.specs.declared.frames.DrawnElement.{DrawnElement}
 use Rattle.det_values.specs.declared.frames.Frame.TheVariants as frames
-use Rattle.det_values.specs.declared.frames.Outcome.TheVariants.{Finished}
 use Rattle.det_values.specs.declared.frames.RunFrame.{RunFrame}
 use Rattle.record_grammar.specs.declared.place.Layout.{Layout}
 use Rattle.record_grammar.specs.declared.place.Place.{Place}
@@ -22,7 +21,7 @@ use Rattle.c_types.specs.Places.{format_of, layout_in, place_of}
 use Rattle.det_record_c.specs.declared.run.DetRun.{DetRun}
 use Rattle.det_record_c.specs.Items.{cycle_in}
 use Rattle.det_record_c.specs.Puts.{Puts}
-use Rattle.det_record_c.specs.Parts.{Written, CallState, PutsFront, spelling_in, HasFields}
+use Rattle.det_record_c.specs.Parts.{CallState, spelling_in, HasFields}
 use Rattle.det_record_c.specs.Runs.{opening_of, closing_of, IsBeforeCycle, TakesCycle, Opened, RunState, IsOpened, IsElementPut, CanClose, IsClosed}
 use Rattle.det_record_c.specs.Statements.{CycleInCalls}
 use Rattle.det_record_c.proofs.Written.{at_place, spelling_is, may_stand, written_behind, puts_front}

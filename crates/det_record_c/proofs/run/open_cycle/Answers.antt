@@ -1,6 +1,6 @@
 use Rattle.std.proofs.Common.{rules, ◌≡◌, ◌≤◌, ◌<◌, length, refl, arith}
 use Rattle.c_types.specs.CValues.{input_of}
-use Rattle.det_record_c.specs.Runs.{TakesCycle, IsSoundOpening, opening_of, run_state}
+use Rattle.det_record_c.specs.Runs.{TakesCycle, IsSoundOpening}
 use Rattle.det_record_c.proofs.Fields.{input_fields}
 use Rattle.det_record_c.proofs.Written.{counted_fit}
 use Rattle.det_record_c.proofs.Running.{is_opened}
