@@ -1,5 +1,5 @@
 -- Spellings and ranges of the items that sound values of C describe.
-use Rattle.std.proofs.Common.{◌≡◌, ℕ, ℤ, ◌+◌, ◌<◌, ◌≤◌, ◌^◌, List, [], ◌∷◌, ◌++◌, length, map, refl, sym, ap, subst, ◌∙◌, append_assoc, arith, FitsSigned}
+use Rattle.std.proofs.Common.{◌≡◌, ℕ, ℤ, ◌<◌, ◌≤◌, ◌^◌, List, ◌∷◌, ◌++◌, length, map, refl, sym, ap, subst, ◌∙◌, append_assoc, arith, FitsSigned}
 use Rattle.std.specs.Int.{w64}
 use Rattle.std.specs.List.{flat_map, All}
 use Rattle.std.proofs.lemmas.List.{length-map}
@@ -13,10 +13,8 @@ use Rattle.det_values.specs.declared.frames.Outcome.TheVariants.{Finished, Refus
 use Rattle.det_values.specs.declared.frames.Frame.TheVariants as frames
 use Rattle.det_values.specs.Limits.{KnowsPolicies}
 use Rattle.det_values.specs.Spelling as flat
-use Rattle.record_grammar.specs.Grammar.{policy_of}
 use Rattle.record_grammar.specs.Spelling.{AreBytes, spelled_u16, spelled_u32, spelled_u64, spelled_element, IsElement, spelled_drawn, IsDrawn}
 use Rattle.record_grammar.specs.Spelling.{spelled_frame, IsFrame, IsTime, IsSample, IsInput, IsHeader, IsEvent, spelled_numbers, spelled_header, spelled_params, spelled_events, version, magic}
-use Rattle.record_grammar.specs.Spelling.{spelled_input, spelled_refusal}
 use Rattle.c_types.specs.declared.cycle.DetSample.{DetSample}
 use Rattle.c_types.specs.declared.cycle.DetElement.{DetElement}
 use Rattle.c_types.specs.declared.cycle.DetTime.{DetTime}
@@ -24,8 +22,8 @@ use Rattle.c_types.specs.declared.cycle.DetRefusal.{DetRefusal}
 use Rattle.c_types.specs.declared.profile.DetProfile.{DetProfile}
 use Rattle.c_types.specs.declared.profile.DetEvent.{DetEvent}
 use Rattle.c_types.specs.CValues.{bytes_of, event_of, sample_of, time_of, input_of, place_of_refusal}
-use Rattle.c_types.specs.Ranges.{AreSoundSamples, IsSoundEvent, IsSoundFinish, IsSoundRefusal}
-use Rattle.det_record_c.specs.Items.{profile_in, element_in, drawn_in, draws_in}
+use Rattle.c_types.specs.Ranges.{AreSoundSamples, IsSoundFinish, IsSoundRefusal}
+use Rattle.det_record_c.specs.Items.{profile_in, element_in, drawn_in}
 use Rattle.det_record_c.specs.Parts.{HasPolicies, IsSoundIn}
 use Rattle.det_record_c.specs.Puts.{Puts}
 use Rattle.det_record_c.specs.Runs.{opening_of, closing_of}
@@ -111,15 +109,14 @@ pub finished_fields : (kept format : Format) (events : ℕ) (time : DetTime) (sa
       outcome = Finished (map (drawn_in format) elements) output;
     }))
 unfolding IsFrame
-finished_fields kept format events time samples elements output same t e o s =
-    (
-      input_fields events time samples t s.samples,
-      (
-        few_mapped (drawn_in format) elements 65536 s.elements.0,
-        subst (λ (f : Format). All (IsDrawn f) (map (drawn_in f) elements)) same e,
-        (s.output, o),
-      ),
-    )
+finished_fields kept format events time samples elements output same t e o s = (
+  input_fields events time samples t s.samples,
+  (
+    few_mapped (drawn_in format) elements 65536 s.elements.0,
+    subst (λ (f : Format). All (IsDrawn f) (map (drawn_in f) elements)) same e,
+    (s.output, o),
+  ),
+)
 
 pub refused_fields : (format : Format) (events : ℕ) (time : DetTime) (samples : List DetSample) (refusal : DetRefusal)
     → IsTime (time_of time) → refusal.code < 2 ^ 32 → IsSoundRefusal events samples refusal

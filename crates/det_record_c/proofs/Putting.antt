@@ -1,7 +1,7 @@
 -- Bytes that are put one after another.
-use Rattle.std.proofs.Common.{◌≡◌, ℕ, ◌+◌, ◌-◌, ◌<◌, ◌≤◌, List, [], ◌∷◌, ◌++◌, length, take, drop, get_or, min, sym, ap, subst, ◌∙◌, arith}
+use Rattle.std.proofs.Common.{◌≡◌, ℕ, ◌+◌, ◌<◌, ◌≤◌, List, [], ◌∷◌, ◌++◌, length, take, drop, get_or, sym, ap, subst, ◌∙◌, arith}
 use Rattle.std.proofs.Common.{append_assoc, length-append}
-use Rattle.std.proofs.lemmas.List.{append-nil, take-append-drop, take_at, drop_at, drop-drop, length-take-le, take_all, take_more, drop_all}
+use Rattle.std.proofs.lemmas.List.{append-nil, take-append-drop, take_at, drop_at, drop-drop, length-take-le, take_all, take_more}
 use Rattle.std.proofs.lemmas.List.Elements.{All-push, All-nil}
 use Rattle.std.proofs.lemmas.Grind.{flat_map-append}
 use Rattle.std.specs.List.{flat_map, All}
@@ -17,18 +17,18 @@ puts_then at a b old mid new to end p q =
           let is : to ≡ at + length a = omega (arith, p.counted, fits, few, n) in
           let m : mid ≡ with_bytes_at at a old = p.written few (omega (arith, fits, n)) in
           let w : new ≡ with_bytes_at to b mid =
-              q.written (omega (arith, few, p.same_room)) (omega (arith, fits, n, is, p.same_room)) in
+          q.written (omega (arith, few, p.same_room)) (omega (arith, fits, n, is, p.same_room)) in
           let front : List ℕ = take at old ++ a in
           let rest : List ℕ = drop (at + length a) old in
           let long : to ≡ length front =
-              omega (arith, is, length-append (take at old) a, length-take-le at old (omega (arith, fits, n))) in
+          omega (arith, is, length-append (take at old) a, length-take-le at old (omega (arith, fits, n))) in
           let cut : mid ≡ front ++ rest = m ∙ sym (append_assoc (take at old) a rest) in
           let before : take to mid ≡ front = ap (take to) cut ∙ take_at front rest to (sym long) in
           let behind : drop to mid ≡ rest = ap (drop to) cut ∙ drop_at front rest to (sym long) in
           let k : at + length a + length b ≡ at + length (a ++ b) = omega (arith, n) in
           let after : drop (to + length b) mid ≡ drop (at + length (a ++ b)) old =
-              sym (drop-drop (length b) to mid) ∙ ap (drop (length b)) behind ∙ drop-drop (length b) (at + length a) old
-              ∙ ap (λ (j : ℕ). drop j old) k in
+          sym (drop-drop (length b) to mid) ∙ ap (drop (length b)) behind ∙ drop-drop (length b) (at + length a) old
+          ∙ ap (λ (j : ℕ). drop j old) k in
           w ∙ ap (λ (xs : List ℕ). xs ++ (b ++ drop (to + length b) mid)) before
           ∙ ap (λ (xs : List ℕ). front ++ (b ++ xs)) after
           ∙ append_assoc (take at old) a (b ++ drop (at + length (a ++ b)) old)
@@ -71,7 +71,7 @@ module _ {X : Type 0} (f : X → List ℕ) (P : X → Type 0) (xs : List X) wher
       let t : take (i + 1) xs ≡ take i xs ++ x ∷ [] = take_more xs i d lt in
       let one : flat_map f (take i xs ++ x ∷ []) ≡ flat_map f (take i xs) ++ (f x ++ []) = flat_map-append f (take i xs) (x ∷ []) in
       let all : flat_map f (take i xs) ++ f x ≡ flat_map f (take (i + 1) xs) =
-          ap (λ (ys : List ℕ). flat_map f (take i xs) ++ ys) (sym (append-nil (f x))) ∙ sym one ∙ ap (flat_map f) (sym t) in
+      ap (λ (ys : List ℕ). flat_map f (take i xs) ++ ys) (sym (append-nil (f x))) ∙ sym one ∙ ap (flat_map f) (sym t) in
       record {
         puts = puts_as at _ _ old new end all (puts_then at (flat_map f (take i xs)) (f x) old mid new to end h.puts q);
         fields = subst (All P) (sym t) (All-push P (take i xs) x h.fields p);

@@ -1,13 +1,12 @@
 -- A cycle that is opened, whose elements are put, and that is closed.
 use Rattle.std.proofs.Common.{◌≡◌, ◌==◌, ℕ, ◌+◌, ◌<◌, ◌≤◌, Bool, true, false, cond, List, [], ◌∷◌, ◌++◌, length, take, refl, sym, ap, subst, ◌∙◌, append_assoc, arith, length-append}
-use Rattle.std.specs.List.{flat_map, All}
+use Rattle.std.specs.List.{flat_map}
 use Rattle.std.proofs.lemmas.List.{append-nil}
 use Rattle.std.proofs.lemmas.List.Elements.{All-push, All-nil}
 use Rattle.std.proofs.lemmas.Grind.{flat_map-append}
 use Rattle.det_values.specs.declared.frames.CycleInput.{CycleInput}
 use Rattle.det_values.specs.declared.frames.DrawnElement.{DrawnElement}
 use Rattle.det_values.specs.declared.frames.Frame.TheVariants as frames
-use Rattle.det_values.specs.declared.frames.Outcome.TheVariants.{Finished}
 use Rattle.det_values.specs.declared.frames.RunFrame.{RunFrame}
 use Rattle.record_grammar.specs.declared.place.Layout.{Layout}
 use Rattle.record_grammar.specs.declared.place.Place.{Place}
@@ -22,7 +21,7 @@ use Rattle.c_types.specs.Places.{format_of, layout_in, place_of}
 use Rattle.det_record_c.specs.declared.run.DetRun.{DetRun}
 use Rattle.det_record_c.specs.Items.{cycle_in}
 use Rattle.det_record_c.specs.Puts.{Puts}
-use Rattle.det_record_c.specs.Parts.{Written, CallState, PutsFront, spelling_in, HasFields}
+use Rattle.det_record_c.specs.Parts.{CallState, spelling_in, HasFields}
 use Rattle.det_record_c.specs.Runs.{opening_of, closing_of, IsBeforeCycle, TakesCycle, Opened, RunState, IsOpened, IsElementPut, CanClose, IsClosed}
 use Rattle.det_record_c.specs.Statements.{CycleInCalls}
 use Rattle.det_record_c.proofs.Written.{at_place, spelling_is, may_stand, written_behind, puts_front}
@@ -104,9 +103,9 @@ is_element_put element end left old new drawn one is puts small fits w =
           let n : length (elements ++ element ∷ []) ≡ length elements + 1 = length-append elements (element ∷ []) in
           let count : length elements + old.run.left ≡ length (elements ++ element ∷ []) + left = omega (arith, n, one) in
           let all : flat_map (spelled_drawn format) elements ++ spelled_drawn format element
-              ≡ flat_map (spelled_drawn format) (elements ++ element ∷ []) =
-              ap (λ (xs : List ℕ). flat_map (spelled_drawn format) elements ++ xs) (sym (append-nil (spelled_drawn format element)))
-              ∙ sym (flat_map-append (spelled_drawn format) elements (element ∷ [])) in
+          ≡ flat_map (spelled_drawn format) (elements ++ element ∷ []) =
+          ap (λ (xs : List ℕ). flat_map (spelled_drawn format) elements ++ xs) (sym (append-nil (spelled_drawn format element)))
+          ∙ sym (flat_map-append (spelled_drawn format) elements (element ∷ [])) in
           let opened : Opened run input (elements ++ element ∷ []) (bytes ++ take new.written new.out) = record {
             follows = o.follows;
             input_fields = o.input_fields;
@@ -161,12 +160,12 @@ is_closed run output end old new can bytes short puts small fits w place =
       written = λ input elements begun o items before done.
           let item : Item = cycle_in input elements output in
           let stands : MayStand (place_of old.state) item =
-              subst (λ (r : DetRecord). MayStand (place_of r) item) can.same
-              (may_stand run.state item (cycle_follows run.state o.follows _) (cycle_fields run input elements begun output o bytes short)) in
+          subst (λ (r : DetRecord). MayStand (place_of r) item) can.same
+          (may_stand run.state item (cycle_follows run.state o.follows _) (cycle_fields run input elements begun output o bytes short)) in
           let spelled : begun ++ take new.written new.out ≡ item_spelling (place_of old.state) item =
-              ap (λ (xs : List ℕ). begun ++ xs) front.bytes_are
-              ∙ subst (λ (r : DetRecord). begun ++ closing_of output ≡ item_spelling (place_of r) item) can.same
-              (cycle_in_calls run input elements begun output o can.none_left) in
+          ap (λ (xs : List ℕ). begun ++ xs) front.bytes_are
+          ∙ subst (λ (r : DetRecord). begun ++ closing_of output ≡ item_spelling (place_of r) item) can.same
+          (cycle_in_calls run input elements begun output o can.none_left) in
           written_behind old.state new.state item (begun ++ take new.written new.out) stands (place _) spelled items before done;
       place = place;
       spelling = front;

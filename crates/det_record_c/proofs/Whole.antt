@@ -4,7 +4,6 @@ use Rattle.record_grammar.specs.declared.place.Place.TheVariants as places
 use Rattle.record_grammar.specs.declared.place.Place.{Place}
 use Rattle.record_grammar.specs.Laws.{AreItems}
 use Rattle.record_grammar.proofs.lemmas.record_laws.Order.{whole_run}
-use Rattle.c_types.specs.Places.{place_of}
 use Rattle.det_record_c.specs.Statements.{WholeRecord}
 
 pub whole_record : WholeRecord

@@ -1,5 +1,5 @@
 -- What is written after a record that was written so far.
-use Rattle.std.proofs.Common.{◌≡◌, ◌==◌, ℕ, ◌+◌, ◌<◌, ◌≤◌, Bool, true, false, cond, List, [], ◌∷◌, ◌++◌, length, take, drop, refl, sym, ap, subst, ◌∙◌, append_assoc, arith}
+use Rattle.std.proofs.Common.{◌≡◌, ◌==◌, ℕ, ◌<◌, ◌≤◌, Bool, true, false, cond, List, [], ◌∷◌, ◌++◌, length, take, drop, refl, sym, ap, subst, ◌∙◌, append_assoc, arith}
 use Rattle.std.proofs.lemmas.List.{append-nil, take_at, drop_at}
 use Rattle.det_values.specs.declared.frames.Frame.TheVariants as frames
 use Rattle.record_grammar.specs.declared.place.Place.{Place}
@@ -112,9 +112,8 @@ pub is_added : (item : Item) (old new : CallState) (end : ℕ) → CanFollow (pl
 is_added item old new end can fields place puts few fits w =
     let is : spelling_in old.state item ≡ item_spelling (place_of old.state) item = sym (spelling_is old.state item can) in
     let front : PutsFront (item_spelling (place_of old.state) item) old.out new.out new.written =
-        subst (λ (xs : List ℕ). PutsFront xs old.out new.out new.written) is
-        (puts_front (spelling_in old.state item) old.out new.out end new.written puts few fits w) in
-    (
+    subst (λ (xs : List ℕ). PutsFront xs old.out new.out new.written) is
+    (puts_front (spelling_in old.state item) old.out new.out end new.written puts few fits w) in (
       subst (λ (xs : List ℕ). length xs ≤ length old.out) is fits,
       record {
         written =

@@ -1,5 +1,5 @@
 -- A part of a record, what a call that writes it reports, and what it changes.
-use Rattle.std.specs.Prelude.{◌≡◌, ◌≢◌, ℕ, ℤ, ◌≤◌, List, [], ◌∷◌, ◌++◌, length, take, drop}
+use Rattle.std.specs.Prelude.{◌≡◌, ℕ, ℤ, ◌≤◌, List, [], ◌∷◌, ◌++◌, length, take, drop}
 use Rattle.std.specs.List.{All}
 use Rattle.det_values.specs.declared.format.Format.{Format}
 use Rattle.det_values.specs.declared.format.Format.TheVariants.{One, Two}

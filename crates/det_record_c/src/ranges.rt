@@ -118,7 +118,9 @@ pub(crate) fn is_sound(state: &DetRecord, part: &Part<'_>) -> bool
             ..
         } => is_sound_finish(state.events, samples, elements, output),
         Part::Refused {
-            samples, refusal, ..
+            samples,
+            refusal,
+            ..
         } => is_sound_refusal(state.events, samples, refusal),
         Part::Terminate => true,
     }

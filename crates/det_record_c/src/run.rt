@@ -26,6 +26,15 @@ pub struct DetRun {
     pub left: u32,
 }
 
+/// What a cycle is opened with.
+#[derive(Clone, Copy)]
+pub(crate) struct Opening<'c> {
+    pub time: &'c DetTime,
+    pub samples: &'c [DetSample],
+    /// Of elements.
+    pub count: u32,
+}
+
 fn copy_of(state: &DetRecord) -> DetRecord
     ensures { result ≡ state.now }
 {
@@ -50,33 +59,33 @@ fn are_same(left: &DetRecord, right: &DetRecord) -> bool
 pub(crate) fn open_cycle(
     run: &mut DetRun,
     state: &DetRecord,
-    time: &DetTime,
-    samples: &[DetSample],
-    count: u32,
+    opening: &Opening<'_>,
     out: &mut [u8],
     written: &mut usize,
 ) -> Result<(), Cause>
     ensures { EndsAs result (TakesCycle state.now)
-        (IsSoundOpening state.now.events samples.now count)
-        (length (opening_of (input_of time.now samples.now) count) ≤ length out.old)
-        (IsOpened state.now (input_of time.now samples.now) count
-        (run_state run.old out.old written.old) (run_state run.new out.new written.new))
+        (IsSoundOpening state.now.events opening.now.samples.now opening.now.count)
+        (length (opening_of (input_of opening.now.time.now opening.now.samples.now)
+        opening.now.count) ≤ length out.old)
+        (IsOpened state.now (input_of opening.now.time.now opening.now.samples.now)
+        opening.now.count (run_state run.old out.old written.old)
+        (run_state run.new out.new written.new))
         (run_state run.new out.new written.new ≡ run_state run.old out.old written.old) }
 {
     if !takes_cycle(state) {
         return Err(Cause::Misplaced);
     }
-    if !is_sound_opening(state.events, samples, count) {
+    if !is_sound_opening(state.events, opening.samples, opening.count) {
         return Err(Cause::OutOfRange);
     }
-    let needed = put_opening(&mut [], time, samples, count);
+    let needed = put_opening(&mut [], opening.time, opening.samples, opening.count);
     if !fits(needed, out) {
         return Err(Cause::NoRoom);
     }
-    *written = put_opening(out, time, samples, count);
+    *written = put_opening(out, opening.time, opening.samples, opening.count);
     *run = DetRun {
         state: copy_of(state),
-        left: count,
+        left: opening.count,
     };
     Ok(())
 }

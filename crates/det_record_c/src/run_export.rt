@@ -12,7 +12,7 @@ ghost use Rattle.det_record_c.specs.Runs.{TakesCycle, IsSoundOpening, opening_of
 ghost use Rattle.det_record_c.specs.Runs.{run_state, IsOpened, IsElementPut, CanClose, IsClosed};
 
 use crate::cause::answer;
-use crate::run::{DetRun, close_cycle, open_cycle, put_next};
+use crate::run::{DetRun, Opening, close_cycle, open_cycle, put_next};
 use c_types::{DetRecord, DetSample, DetTime};
 
 /// Opens a cycle that finished with this number of elements. The record stays where it is.
@@ -33,7 +33,12 @@ pub extern "C" fn det_run_open(
         (run_state run.old out.old written.old) (run_state run.new out.new written.new))
         (run_state run.new out.new written.new ≡ run_state run.old out.old written.old) }
 {
-    answer(open_cycle(run, state, time, samples, element_count, out, written))
+    let opening = Opening {
+        time,
+        samples,
+        count: element_count,
+    };
+    answer(open_cycle(run, state, &opening, out, written))
 }
 
 /// Puts the next element of a cycle that was opened. If all are put, it is misplaced.

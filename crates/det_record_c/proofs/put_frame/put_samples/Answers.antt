@@ -7,7 +7,7 @@ use Rattle.det_record_c.proofs.put_frame.put_samples.Goals as goal
 
 pub loop-sample-preserved : goal.loop-sample-preserved
 loop-sample-preserved c =
-    PutSo-at (λ s. spelled_sample (sample_of s)) (λ s. Unit {0}) _ _ _ _ _ _ _ _ _ c.loop-sample-test.true 
+    PutSo-at (λ s. spelled_sample (sample_of s)) (λ s. Unit {0}) _ _ _ _ _ _ _ _ _ c.loop-sample-test.true
     c.loop-sample.invariant c.put_sample-end.ensures tt
 
 pub returns : goal.returns

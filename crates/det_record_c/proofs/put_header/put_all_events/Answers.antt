@@ -7,7 +7,7 @@ use Rattle.det_record_c.proofs.put_header.put_all_events.Goals as goal
 
 pub loop-event-preserved : goal.loop-event-preserved
 loop-event-preserved c =
-    PutSo-at (λ e. spelled_event c.args.format (event_of e)) (λ e. Unit {0}) _ _ _ _ _ _ _ _ _ c.loop-event-test.true 
+    PutSo-at (λ e. spelled_event c.args.format (event_of e)) (λ e. Unit {0}) _ _ _ _ _ _ _ _ _ c.loop-event-test.true
     c.loop-event.invariant c.put_event-end.ensures tt
 
 pub returns : goal.returns

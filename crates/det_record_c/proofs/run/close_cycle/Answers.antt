@@ -15,6 +15,10 @@ returns c =
     let short : length c.args.output.now ≤ 1048576 = search rules in
     let small : length c.args.out.now < 18446744073709551615 = search rules in
     let le : c.put_closing-needed.result ≤ length c.args.out.now = search rules in
-    let fits = counted_fit _ _ _ c.args.out.now _ c.put_closing-needed.ensures.puts le small in
-    (can, short, fits, is_closed c.args.run.now c.args.output.now _ _ _ can c.put_closing.ensures.fields short c.put_closing.ensures.puts
-    (omega (arith, small)) fits refl (place_next c.args.state.now can.follows))
+    let fits = counted_fit _ _ _ c.args.out.now _ c.put_closing-needed.ensures.puts le small in (
+      can,
+      short,
+      fits,
+      is_closed c.args.run.now c.args.output.now _ _ _ can c.put_closing.ensures.fields short c.put_closing.ensures.puts
+          (omega (arith, small)) fits refl (place_next c.args.state.now can.follows),
+    )

@@ -16,7 +16,11 @@ returns c =
     let le : c.put_drawn-needed.result ≤ length c.args.out.now = search rules in
     let format = format_of c.args.run.now.state.format in
     let same : c.format-kept.result ≡ format = c.format-kept.ensures in
-    let fits = counted_fit _ _ _ c.args.out.now _ (puts_drawn _ _ _ _ _ _ _ _ same c.put_drawn-needed.ensures.puts) le small in
-    (some, short, fits, is_element_put (element_in format c.args.bytes.now c.args.draws) _ (c.args.run.now.left - 1) _ _
-    (subst (λ (f : Format). IsDrawn f (element_in f c.args.bytes.now c.args.draws)) same c.put_drawn.ensures.fields)
-    (omega (arith, some)) refl (puts_drawn _ _ _ _ _ _ _ _ same c.put_drawn.ensures.puts) (omega (arith, small)) fits refl)
+    let fits = counted_fit _ _ _ c.args.out.now _ (puts_drawn _ _ _ _ _ _ _ _ same c.put_drawn-needed.ensures.puts) le small in (
+      some,
+      short,
+      fits,
+      is_element_put (element_in format c.args.bytes.now c.args.draws) _ (c.args.run.now.left - 1) _ _
+          (subst (λ (f : Format). IsDrawn f (element_in f c.args.bytes.now c.args.draws)) same c.put_drawn.ensures.fields)
+          (omega (arith, some)) refl (puts_drawn _ _ _ _ _ _ _ _ same c.put_drawn.ensures.puts) (omega (arith, small)) fits refl,
+    )
