@@ -4,9 +4,9 @@ ghost use Rattle.manifest.specs.Meaning.{named_manifest_of};
 ghost use Rattle.manifest.specs.Values.{NamedValue};
 ghost use Rattle.det_manifest_c.specs.Manifests.{StandsFor, IsManifest, IsFault};
 
-use c_types::{DetManifest, DetManifestFault};
 use crate::fault::fault_struct;
 use crate::fill::fill;
+use c_types::{DetManifest, DetManifestFault};
 use manifest::{ManifestError, read_named_manifest};
 use std::alloc::Global;
 
