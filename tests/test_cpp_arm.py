@@ -17,6 +17,8 @@ from test_cpp_linking import functions_of_headers, symbols
 
 ARM = "aarch64-unknown-linux-gnu"
 COMPILER, QEMU = "aarch64-linux-gnu-g++", "qemu-aarch64-static"
+# Where Debian's compiler has the C and C++ libraries for that processor.
+ROOT = "/usr/aarch64-linux-gnu"
 PROGRAMS = ("words", "blocks", "windows", "pools", "recording", "engine", "parts", "total")
 JOBS = {"cloud": TOP / "examples", "guard": TOP / "examples", "tracker": EXAMPLES}
 JOBS["estimate"] = EXAMPLES
@@ -33,10 +35,10 @@ def arm(pytestconfig: pytest.Config) -> Path:
 
 
 def compile_arm(cpp: CppBench, arm: Path, source: Path) -> Path:
-    """A program for AArch64 with its C++ library in it, so that qemu needs no other files."""
+    """A program for AArch64."""
     need(COMPILER, QEMU)
     program = cpp.folder / f"arm_{source.stem}"
-    words = [COMPILER, *CPP, "-O2", EXACT, "-static", source, arm, "-pthread", "-o", program]
+    words = [COMPILER, *CPP, "-O2", EXACT, source, arm, "-pthread", "-o", program]
     cpp.output_of(words)
     return program
 
@@ -54,7 +56,7 @@ def test_archive(arm: Path, cpp: CppBench) -> None:
 @pytest.mark.parametrize("program", PROGRAMS)
 def test_program(program: str, arm: Path, cpp: CppBench) -> None:
     """The test programs in C++ pass on AArch64."""
-    cpp.check_lines([QEMU, compile_arm(cpp, arm, SOURCES / f"{program}.cpp")])
+    cpp.check_lines([QEMU, "-L", ROOT, compile_arm(cpp, arm, SOURCES / f"{program}.cpp")])
 
 
 @pytest.mark.slow
@@ -64,4 +66,4 @@ def test_same_record(job: str, arm: Path, cpp: CppBench) -> None:
     words = ["record", *(JOBS[job] / f"{job}.{it}" for it in ("toml", "stim")), "--seed", 5]
     expected = cpp.output_of([cpp.example_program(job), *words])
     program = compile_arm(cpp, arm, EXAMPLES / f"{job}.cpp")
-    assert cpp.output_of([QEMU, program, *words]) == expected
+    assert cpp.output_of([QEMU, "-L", ROOT, program, *words]) == expected

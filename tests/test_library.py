@@ -2,23 +2,20 @@
 
 from __future__ import annotations
 
+import re
 import time
 from pathlib import Path
 
 import pytest
 
-from commands import Outcome, run
+from commands import TOP, Outcome, run
 from small_repository import NOT_BUILT, SmallRepository
 
 EXPORT = '#[unsafe(no_mangle)]\npub extern "C" fn {}(x: &mut u8) -> u8\n'
-CRATES = (
-    "det_client_c",
-    "det_record_c",
-    "det_reading_c",
-    "det_stimulus_c",
-    "det_manifest_c",
-    "det_verdict_c",
-)
+# The crates of the library, as the builder has them.
+EXPORTING = re.compile(r"^EXPORTING = \((.*?)\)$", re.MULTILINE | re.DOTALL)
+BUILDER = (TOP / "tools" / "library.py").read_text()
+CRATES = re.findall(r'"(\w+)"', EXPORTING.findall(BUILDER)[0])
 HOST = "x86_64-unknown-linux-gnu"
 ARM = "aarch64-unknown-linux-gnu"
 COMPILED_LINE = (
@@ -94,13 +91,13 @@ def test_library_after_gate(repository: LibraryRepository) -> None:
     repository.write("out/proved")
     first = repository.build("--prove")
     assert first.status == 0, str(first)
-    assert repository.archive() == "over the gate\n" * 2 + OBJECTS
+    assert repository.archive() == "over the gate\n" * len(CRATES) + OBJECTS
     assert not repository.calls("rt lib")
     time.sleep(0.05)
     repository.write("crates/low/src/lib.rt")
     second = repository.build("--prove")
     assert repository.archive() == proved_archive(HOST), str(second)
-    assert repository.calls("rt lib") == 2
+    assert repository.calls("rt lib") == len(CRATES)
 
 
 def test_new_version(repository: LibraryRepository) -> None:
@@ -118,7 +115,7 @@ def test_other_target(repository: LibraryRepository) -> None:
 
 def test_untested_export(repository: LibraryRepository) -> None:
     """With an export that no test calls the library is proved, or refused for --compile."""
-    repository.write_exports(CRATES[1], "det_of_det_record_c", "det_untested")
+    repository.write_exports(CRATES[1], f"det_of_{CRATES[1]}", "det_untested")
     refused, given = repository.build("--compile"), repository.build()
     assert refused.status == NOT_BUILT, str(refused)
     assert b"no test calls det_untested" in refused.err

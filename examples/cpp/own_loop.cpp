@@ -61,7 +61,7 @@ Result<void> Loop(LiveSource& source, RecordSink& sink, DetHeader const& header)
   auto made = DeterministicClient::Create(source, header.profile.cycle_time, 3);
   if (!made) return made.Error();
   DeterministicClient& client = *made;
-  Recorder recorder(sink);
+  Recorder recorder(sink, header.format);
   std::vector<std::int64_t> values(500);
   Result<void> done =
       recorder.Header(header.profile, {}, Items<DetEvent>(header.events, header.event_count));
