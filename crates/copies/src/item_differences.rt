@@ -71,8 +71,9 @@ fn header_difference(
     Some(Difference::Header)
 }
 
-/// The first difference of two frames of one number.
-fn frame_difference(
+/// The first difference of two frames of one number, in the order of the variants of `Difference`.
+/// It allocates nothing.
+pub fn frame_difference(
     frame: u32,
     left: FrameView,
     left_bytes: &[u8],

@@ -18,6 +18,7 @@ pub mod verdict_text;
 pub use check_verdict::CheckVerdict;
 pub use difference::Difference;
 pub use frame_differences::first_frame_difference;
+pub use item_differences::frame_difference;
 pub use row::Row;
 pub use side_by_side::compare;
 pub use verdict::{BadCopy, Verdict};

@@ -5,3 +5,4 @@ pub mod Items
 pub mod Samples
 pub mod Elements
 pub mod Written
+pub mod Comparing

@@ -6,3 +6,4 @@ pub mod Frames
 pub mod Answers
 pub mod Parts
 pub mod Statements
+pub mod Comparisons

@@ -4,6 +4,7 @@
 
 mod export;
 mod fault;
+mod frame_comparison;
 mod frame_parts;
 mod frame_struct;
 mod header;

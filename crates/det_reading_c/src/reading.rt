@@ -46,7 +46,7 @@ pub struct DetReading {
     pub scan: DetScan,
 }
 
-fn no_scan() -> Scan
+pub(crate) fn no_scan() -> Scan
     ensures { result ≡ fresh_scan }
 {
     Scan {

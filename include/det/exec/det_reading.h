@@ -77,6 +77,16 @@ bool det_frame_sample(const DetFrame *frame, const uint8_t *bytes, size_t count,
 bool det_frame_element(const DetFrame *frame, const uint8_t *bytes, size_t count, size_t *at,
                        DetElement *element);
 
+enum { DET_FRAMES_EQUAL = 0, DET_FRAMES_DIFFER = 1, DET_FRAMES_NONE = 2 };
+
+/* Compares what may be two frames `number`, counted from 0, of two records in this format with so
+ * many events. DET_FRAMES_EQUAL: they are the same frame. DET_FRAMES_DIFFER: both are whole, and
+ * `place` is their first difference. DET_FRAMES_NONE: one of them isn't exactly one whole frame that
+ * may come there. `place` changes only with DET_FRAMES_DIFFER. Any format but 1 is 2. */
+uint8_t det_frame_difference(uint8_t format, uint16_t events, uint32_t number, const uint8_t *left,
+                             size_t left_count, const uint8_t *right, size_t right_count,
+                             DetPlace *place);
+
 #ifdef __cplusplus
 }
 #endif
