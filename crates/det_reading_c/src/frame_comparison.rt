@@ -4,9 +4,9 @@ ghost use Rattle.c_types.specs.Places.{format_of};
 ghost use Rattle.det_reading_c.specs.Comparisons.{frame_place, IsWholeFrame, IsPlaceOf};
 ghost use Rattle.det_reading_c.specs.Comparisons.{ComparesFrames, layout_with};
 
+use crate::reading::no_scan;
 use c_types::DetPlace;
 use copies::{Difference, frame_difference};
-use crate::reading::no_scan;
 use det_values::Format;
 use record_grammar::{Layout, Place};
 use record_view::{FrameView, ItemView, view_item};

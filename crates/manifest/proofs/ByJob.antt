@@ -44,8 +44,8 @@ is_by_job strict bytes =
     let text : Named = option_map_or (named_in strict) (document_of bytes) (Err NotToml) in
     let read : Named = cond (is_utf8 bytes) text (Err NotToml) in
     sym (
-      at_choice few (Err TooLong) read
-      ∙ ap (λ (r : Result ManifestValue ManifestFault). cond few (Err TooLong) r)
-      (at_choice (is_utf8 bytes) text (Err NotToml)
-      ∙ ap (λ (r : Result ManifestValue ManifestFault). cond (is_utf8 bytes) r (Err NotToml)) (after_document strict (document_of bytes)))
+    at_choice few (Err TooLong) read
+    ∙ ap (λ (r : Result ManifestValue ManifestFault). cond few (Err TooLong) r)
+    (at_choice (is_utf8 bytes) text (Err NotToml)
+    ∙ ap (λ (r : Result ManifestValue ManifestFault). cond (is_utf8 bytes) r (Err NotToml)) (after_document strict (document_of bytes)))
     )

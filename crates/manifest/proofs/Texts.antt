@@ -1,5 +1,5 @@
 -- A document as a value, and bytes that are no text.
-use Rattle.std.proofs.Common.{◌∙◌, nat_le, None, Result, Ok, Err, ◌≡◌, ◌≤◌, Some, length, subst, le-leb, Bool, true, false}
+use Rattle.std.proofs.Common.{nat_le, None, Result, Ok, Err, ◌≡◌, ◌≤◌, Some, length, subst, le-leb, Bool, true, false}
 use Rattle.std.proofs.Common.{List, ℕ, String, BTreeMap, Global, IsUtf8, refl}
 use Rattle.std.specs.Str.{is_utf8}
 use Rattle.std.proofs.lemmas.Str.{IsUtf8-from_is_utf8, is_utf8-from_IsUtf8}
@@ -7,7 +7,6 @@ use Rattle.manifest.specs.KeyReaders.{IsParsed, IsDocument}
 use Rattle.manifest.specs.Meaning.{named_manifest_of, document_of, IfFault}
 use Rattle.manifest.specs.declared.manifest_fault.ManifestError.{ManifestError}
 use Rattle.manifest.specs.declared.manifest_fault.ManifestError.TheVariants.{Fault, OutOfMemory}
-use Rattle.manifest.specs.declared.manifest_fault.ManifestFault.{ManifestFault}
 use Rattle.manifest.specs.declared.manifest_fault.ManifestFault.TheVariants.{TooLong, NotToml}
 use Rattle.toml.specs.Data.{table}
 use Rattle.toml.specs.View.{view, table_view}

@@ -5,8 +5,7 @@ use Rattle.std.specs.Borrow.{Bor}
 use Rattle.toml.specs.Data.{Data}
 use Rattle.toml.specs.View.{view}
 use Rattle.toml.specs.declared.value.Value.{Value}
-use Rattle.manifest.specs.Meaning.{named_manifest_of, named_in, by_job}
-use Rattle.manifest.specs.Values.{ManifestValue, NamedValue}
+use Rattle.manifest.specs.Meaning.{named_manifest_of, named_in}
 use Rattle.manifest.specs.declared.key.Key.{Key}
 use Rattle.manifest.specs.declared.key.Key.TheVariants.{InitNeeds, InitNeed, RunNeeds, RunNeed}
 use Rattle.manifest.specs.declared.key.NeedKey.{NeedKey}

@@ -27,12 +27,12 @@ stopped-then T U {first} {last = last} {C = C} stop on before now =
     subst (ShelfTraffic (record { first = first; last = last; stays = C })) (same-failure T U stop) (shelf-then on before now)
 
 -- no write failed where a reader stopped, since none of its answers says so
-pub unwritten : {A : Type 0} (why : Stopped RecordFault) (sink : SinkRun) → (why ≡ Failed Write → ⊥) → SinkTraffic sink None
+pub unwritten : (A : Type 0) (why : Stopped RecordFault) (sink : SinkRun) → (why ≡ Failed Write → ⊥) → SinkTraffic sink None
     → SinkTraffic sink (failure_in {A = A} (Err why))
-unwritten (Refused fault) sink never t = t
-unwritten (Failed Read) sink never t = record { cause = λ e. cc; counted = t.counted }
-unwritten (Failed Write) sink never t = absurd (never refl)
-unwritten (Failed OutOfMemory) sink never t = record { cause = λ e. cc; counted = t.counted }
+unwritten A (Refused fault) sink never t = t
+unwritten A (Failed Read) sink never t = record { cause = λ e. cc; counted = t.counted }
+unwritten A (Failed Write) sink never t = absurd (never refl)
+unwritten A (Failed OutOfMemory) sink never t = record { cause = λ e. cc; counted = t.counted }
 
 -- a fact about every record that begins with what was read, as one about the slot
 pub by-slot : {shelf : ShelfRun} {slot : ℕ} {more : List ℕ} (read : List ℕ) (P : List ℕ → Type 0) → Reads shelf.first shelf.last slot more

@@ -123,7 +123,7 @@ module _ {S G E L P : Type 0} {m : Meaning S G E L P} {profile : ProfileValue} w
   pub no-write : {first now : ShelfState} {slot : ℕ} {old next : FrameReader} {given : List CycleInput} (why : Stopped RecordFault)
       (read : List ℕ) → StandsFor old read (items.Header profile ∷ []) → Next m profile first now slot old next given (Err why)
       → (sink : SinkRun) → SinkTraffic sink None → SinkTraffic sink (failure_in {A = Counts} (Err why))
-  no-write why read stands n sink = unwritten why sink (λ is.
+  no-write why read stands n sink = unwritten _ why sink (λ is.
       (subst (λ (w : Stopped RecordFault). Next m profile _ _ _ _ _ _ (Err w)) is n).is read stands)
 
 -- fewer than 1,000,000 cycles were run before the next one
