@@ -42,7 +42,8 @@ pub struct DetManifest {
 /// TOML, 3 for a missing key, 4 for a value of a wrong kind, 5 for one out of its range, 6 for an
 /// unknown key, 7 for the name of an earlier event, 8 for an unknown job, 9 for a bad parameter.
 /// `key` has a number for each key, `number` its event or parameter, and `text` the unknown key.
-/// An unknown key has in `key` the number of its table: 0 for the top, else that of the table's key.
+/// For an unknown key, `key` is the number of its table: 0 at the top, else that of the table's
+/// key.
 #[repr(C)]
 #[derive(Drop)]
 pub struct DetManifestFault {

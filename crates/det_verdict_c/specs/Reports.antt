@@ -1,5 +1,6 @@
 -- What was seen of the runs of a record, and the reports on them.
-use Rattle.std.specs.Prelude.{◌≡◌, ◌≤◌, ℕ, ◌==◌, Bool, List, [], ◌∷◌, Option, Some, None, if◌then◌else◌}
+use Rattle.std.specs.Prelude.{◌≡◌, ◌≤◌, ℕ, ◌==◌, Bool, List, [], ◌∷◌, Option, Some, None}
+use Rattle.std.specs.Prelude.{if◌then◌else◌}
 use Rattle.det_values.specs.Values.{RefusedAtValue}
 use Rattle.det_values.specs.declared.frames.RunFrame.{RunFrame}
 use Rattle.c_types.specs.declared.frame.DetFrame.{DetFrame}

@@ -61,8 +61,8 @@ fn set_answer(text: &mut DetText, answer: Option<Answer>)
     }
 }
 
-/// The line `bad words`, `read fault`, `write fault` or `out of memory` of its status, and the empty
-/// text of any other.
+/// The line `bad words`, `read fault`, `write fault` or `out of memory` of its status, and the
+/// empty text of any other.
 #[unsafe(no_mangle)]
 pub extern "C" fn det_text_status(status: u8, text: &mut DetText)
     ensures { text_of text.new ≡ text_if err_line (status_answer status) }

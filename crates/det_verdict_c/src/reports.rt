@@ -8,8 +8,8 @@ ghost use Rattle.det_verdict_c.specs.Reports.{IsViewOf, HasSeen, number_if, last
 use c_types::{DetFrame, DetRefusal};
 
 /// What was seen of the Run frames of a record. The counts saturate. `refused_at` is the number of
-/// the first refused run, counted from 1, and 0 if there is none; `refusal` is its refusal. The time
-/// of the last run, and the greatest step of time, are known if their flags are set.
+/// the first refused run, counted from 1, and 0 if there is none. `refusal` is its refusal. The
+/// time of the last run, and the greatest step of time, are known if their flags are set.
 #[repr(C)]
 #[derive(Drop)]
 pub struct DetReports {

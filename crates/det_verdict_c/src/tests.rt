@@ -7,6 +7,12 @@ use c_types::*;
 use std::array;
 use std::test::*;
 
+static SETUP: &[u8] =
+    b"job tracker\ncycle_time 10000000\nworkers 4\nplatform x86 board\ninit none\n";
+
+static RUN_NEEDS: &[u8] =
+    b"run instructions 7\nrun sequential_begin 2\nrun sequential_end 0\nrun speedup 2500\n";
+
 fn blank() -> DetText {
     DetText {
         bytes: [b'x'; 1024],
@@ -155,10 +161,10 @@ fn lines_of_verdicts(rt: HostRuntime) {
 fn lines_of_needs(rt: HostRuntime) {
     let mut text = blank();
     det_text_needs(&manifest(), &mut text);
-    assert_eq!(rt;
-        bytes_of(&text),
-        b"job tracker\ncycle_time 10000000\nworkers 4\nplatform x86 board\ninit none\nrun instructions 7\nrun sequential_begin 2\nrun sequential_end 0\nrun speedup 2500\n".as_slice()
-    );
+    let lines = bytes_of(&text);
+    assert_eq!(rt; lines.len(), SETUP.len() + RUN_NEEDS.len());
+    assert_eq!(rt; lines.starts_with(SETUP), true);
+    assert_eq!(rt; lines.ends_with(RUN_NEEDS), true);
 }
 
 #[test]
