@@ -28,5 +28,5 @@ pub returns-in-Ok-write_all-clause-meets : goal.returns-in-Ok-write_all-clause-m
 returns-in-Ok-write_all-clause-meets g c =
     meets-whole _ _ _ _ _ c.as_slice.result.now (λ e. cc) (λ e. cc)
     (λ is_known. ap needs_from (c.in-Ok.ensures.manifest is_known) ∙ ap text_outcome (sym (c.as_slice.ensures.bytes
-    ∙ c.needs_lines.ensures)))
+    ∙ c.needs_lines-lines.ensures)))
     c.in-Ok-write_all.ensures.all
