@@ -91,14 +91,21 @@ def test_library_after_gate(repository: LibraryRepository) -> None:
     repository.write("out/proved")
     first = repository.build("--prove")
     assert first.status == 0, str(first)
-CRATES = ("det_client_c", "det_record_c", "det_reading_c", "det_stimulus_c", "det_manifest_c", "det_verdict_c")
+    assert repository.archive() == "over the gate\n" * len(CRATES) + OBJECTS
     assert not repository.calls("rt lib")
     time.sleep(0.05)
     repository.write("crates/low/src/lib.rt")
     second = repository.build("--prove")
     assert repository.archive() == proved_archive(HOST), str(second)
     assert repository.calls("rt lib") == len(CRATES)
-CRATES = ("det_client_c", "det_record_c", "det_reading_c", "det_stimulus_c", "det_manifest_c", "det_verdict_c")
+
+
+def test_new_version(repository: LibraryRepository) -> None:
+    """The library is built again after a change of the header with its version."""
+    repository.build()
+    time.sleep(0.05)
+    repository.write("include/det/exec/version.h")
+    assert repository.build().err == COMPILED_LINE
 
 
 def test_other_target(repository: LibraryRepository) -> None:
