@@ -1,11 +1,11 @@
--- A run of a command that shows runs, and of one that shows none and writes nothing while it reads.
-use Rattle.std.proofs.Common.{◌≡◌, ℕ, List, [], ◌∷◌, Bool, true, false, refl, sym, subst, ◌∙◌, inl, inr}
+-- A run of a command that shows no runs and writes nothing while it reads.
+use Rattle.std.proofs.Common.{◌≡◌, ℕ, List, [], ◌∷◌, Bool, true, false, refl, sym, subst, ◌∙◌}
 use Rattle.det_io.specs.Count.{Rose}
 use Rattle.det_io.specs.Shelf.{ShelfState, AsksPrefix}
 use Rattle.det_io.specs.Traffic.{SinkRun}
 use Rattle.probes.specs.Reports.{AudienceState}
 use Rattle.cli_answers.specs.declared.answer.Answer.{Answer}
-use Rattle.cli_answers.specs.declared.answer.Answer.TheVariants.{Done, Differs, ReadFault, OutOfMemory}
+use Rattle.cli_answers.specs.declared.answer.Answer.TheVariants.{ReadFault}
 use Rattle.cli_answers.specs.Ends.{can_end}
 use Rattle.cli_answers.specs.Outcome.{Meets, known_bytes}
 use Rattle.cli_answers.specs.Slots.{KeepsSlots}
@@ -84,31 +84,6 @@ runs-quiet {first = first} {audience = audience} q meets ends asked needed earli
   left = λ e. refl;
   gone = λ e. let never = sym q.hidden ∙ e in absurd cc;
   saw = λ t ne. q.seen (known_bytes first) audience;
-}
-
--- a run of a command that shows runs, and leaves no probe that hasn't reported if it is done or finds a difference
-pub runs-shown : {c : CommandValue} {first last : ShelfState} {out : SinkRun} {seeing stayed : AudienceState} {answer : Answer}
-    → is_showing c.word c ≡ true
-    → Meets (outcome_by c.word c (known_bytes first) seeing) (KnowsAllBytes c first) (Rose first.faults last.faults) out answer
-    → (KnowsAllBytes c first → answer ≡ ReadFault → BrokenBy c.word c first last out)
-    → can_end (work_of c.word) answer ≡ true → AsksPrefix first last (files_of c)
-    → (KnowsAllBytes c first → AsksPrefix first last (opened_by c.word c (known_bytes first)))
-    → KeepsSlots first last → (answer ≡ Done → stayed.seeing ≡ []) → (answer ≡ Differs → stayed.seeing ≡ [])
-    → (KnowsAllBytes c first → (answer ≡ OutOfMemory → ⊥) → SeenBy c.word c (known_bytes first) seeing stayed out)
-    → Runs c first last out seeing stayed answer
-runs-shown showing meets broken ends asked needed earlier done differs saw = record {
-  meets = meets;
-  ends = ends;
-  broken = broken;
-  left = λ e. let never = sym showing ∙ e in absurd cc;
-  gone = λ e either. elim either [
-    | inl is ↦ done is
-    | inr is ↦ differs is
-  ];
-  asked = asked;
-  needed = needed;
-  earlier = earlier;
-  saw = saw;
 }
 
 -- what is left to show of a plain command

@@ -64,13 +64,17 @@ where
     answer.status()
 }
 
-fn dispatch_words<S: Shelf, K: Sink, R: Threads>(
+fn dispatch_words<S, K, R>(
     host: &Host<'_, R>,
     words: &[String],
     shelf: &mut S,
     out: &mut K,
     audience: &mut Audience,
 ) -> Answer
+where
+    S: Shelf,
+    K: Sink,
+    R: Threads,
     ensures { MatchOption (command_of (texts words.now))
         (Refuses (S.sees shelf.old) (S.sees shelf.new)
         (sink_run K.took K.faults out.old out.new)
@@ -88,13 +92,17 @@ fn dispatch_words<S: Shelf, K: Sink, R: Threads>(
     }
 }
 
-fn dispatch_command<S: Shelf, K: Sink, R: Threads>(
+fn dispatch_command<S, K, R>(
     host: &Host<'_, R>,
     command: Command<'_>,
     shelf: &mut S,
     out: &mut K,
     audience: &mut Audience,
 ) -> Answer
+where
+    S: Shelf,
+    K: Sink,
+    R: Threads,
     requires range { IsInRange (command_value command) }
     ensures { Runs (command_value command.entry) (S.sees shelf.old) (S.sees shelf.new)
         (sink_run K.took K.faults out.old out.new)

@@ -25,12 +25,16 @@ use std::thread::Threads;
 /// fault. After a write that failed during the run, what is held is tried once more; the answer
 /// stays a write fault. `show` and reports aren't gathered, since no probe may see a run whose
 /// lines weren't taken.
-pub(crate) fn dispatch_gathered<S: Shelf, K: Sink, R: Threads>(
+pub(crate) fn dispatch_gathered<S, K, R>(
     host: &Host<'_, R>,
     command: &Command<'_>,
     shelf: &mut S,
     out: &mut K,
 ) -> Answer
+where
+    S: Shelf,
+    K: Sink,
+    R: Threads,
     requires range { IsInRange (command_value command.now) }
     requires word { writes_record command.now.word ≡ true }
     ensures { RunsUnseen (command_value command.now) (S.sees shelf.old) (S.sees shelf.new)
@@ -102,12 +106,16 @@ where
 }
 
 /// Runs the command over a sink.
-fn dispatch_record_command<S: Shelf, K: Sink, R: Threads>(
+fn dispatch_record_command<S, K, R>(
     host: &Host<'_, R>,
     command: &Command<'_>,
     shelf: &mut S,
     out: &mut K,
 ) -> Answer
+where
+    S: Shelf,
+    K: Sink,
+    R: Threads,
     requires range { IsInRange (command_value command.now) }
     requires word { writes_record command.now.word ≡ true }
     ensures { RunsUnseen (command_value command.now) (S.sees shelf.old) (S.sees shelf.new)

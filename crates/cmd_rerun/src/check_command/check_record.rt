@@ -26,13 +26,17 @@ use shipped_crews::{ShippedRun, Workers, with_crew};
 use std::thread::Threads;
 
 /// Checks the rest of a record by a crew, and prints the verdict and the reports.
-fn check_by_crew<S: Slots, K: Sink, R: Threads>(
+fn check_by_crew<S, K, R>(
     workers: &Workers<'_, R>,
     run: RecordedRun,
     shelf: &mut S,
     out: &mut K,
     audience: &mut Audience,
 ) -> Answer
+where
+    S: Slots,
+    K: Sink,
+    R: Threads,
     requires good { IsGoodRun run.kind run.profile }
     requires opened { IsOpen run.frames run.profile (S.sees shelf.old) }
     ensures rerun { IsRerun
@@ -76,13 +80,17 @@ fn check_by_crew<S: Slots, K: Sink, R: Threads>(
 ///
 /// If the record has a fault and departs nowhere before it, nothing is printed. If no shipped job
 /// takes what the header says, the audience isn't shown anything either.
-pub fn check<S: Shelf, K: Sink, R: Threads>(
+pub fn check<S, K, R>(
     workers: &Workers<'_, R>,
     recorded: &str,
     shelf: &mut S,
     out: &mut K,
     audience: &mut Audience,
 ) -> Answer
+where
+    S: Shelf,
+    K: Sink,
+    R: Threads,
     ensures meets { Meets (check_outcome (seen (λ b. life (b.vtable, b.value)) audience.old)
         (known_bytes (S.sees shelf.old) recorded.now)) (KnowsBytes (S.sees shelf.old) (recorded.now
         ∷ []))

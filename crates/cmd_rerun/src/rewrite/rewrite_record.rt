@@ -23,13 +23,17 @@ use shipped_crews::{ShippedRun, Workers, with_crew};
 use std::thread::Threads;
 
 /// Rewrites the rest of a record by a crew, without an audience.
-fn rewrite_by_crew<S: Slots, K: Sink, R: Threads>(
+fn rewrite_by_crew<S, K, R>(
     workers: &Workers<'_, R>,
     rewrite: Rewrite,
     run: RecordedRun,
     shelf: &mut S,
     out: &mut K,
 ) -> Answer
+where
+    S: Slots,
+    K: Sink,
+    R: Threads,
     requires good { IsGoodRun run.kind run.profile }
     requires opened { IsOpen run.frames run.profile (S.sees shelf.old) }
     ensures { IsRerun (rewritten rewrite run.kind run.profile) (work_of rewrite) run.profile
@@ -55,13 +59,17 @@ fn rewrite_by_crew<S: Slots, K: Sink, R: Threads>(
 
 /// Runs the job of the record under this name again over its inputs, and writes a record of that
 /// run. If no shipped job takes what the header says, nothing is written.
-fn rewrite_named_record<S: Shelf, K: Sink, R: Threads>(
+fn rewrite_named_record<S, K, R>(
     workers: &Workers<'_, R>,
     rewrite: Rewrite,
     recorded: &str,
     shelf: &mut S,
     out: &mut K,
 ) -> Answer
+where
+    S: Shelf,
+    K: Sink,
+    R: Threads,
     ensures meets { Meets (rewrite_outcome rewrite (known_bytes (S.sees shelf.old) recorded.now))
         (KnowsBytes (S.sees shelf.old) (recorded.now ∷ []))
         (Rose (S.sees shelf.old).faults (S.sees shelf.new).faults)
@@ -80,12 +88,16 @@ fn rewrite_named_record<S: Shelf, K: Sink, R: Threads>(
 /// they give. The outcomes in the record that is read don't matter. If it has a fault, the runs of
 /// all inputs before the fault are written, without Terminate. If no shipped job takes what the
 /// header says, nothing is written.
-pub fn replay<S: Shelf, K: Sink, R: Threads>(
+pub fn replay<S, K, R>(
     workers: &Workers<'_, R>,
     recorded: &str,
     shelf: &mut S,
     out: &mut K,
 ) -> Answer
+where
+    S: Shelf,
+    K: Sink,
+    R: Threads,
     ensures meets { Meets (replay_outcome (known_bytes (S.sees shelf.old) recorded.now))
         (KnowsBytes (S.sees shelf.old) (recorded.now ∷ []))
         (Rose (S.sees shelf.old).faults (S.sees shelf.new).faults)
@@ -102,12 +114,16 @@ pub fn replay<S: Shelf, K: Sink, R: Threads>(
 ///
 /// If the record has a fault, the frames before it are written, without Terminate. If no shipped
 /// job takes what the header says, nothing is written.
-pub fn upgrade<S: Shelf, K: Sink, R: Threads>(
+pub fn upgrade<S, K, R>(
     workers: &Workers<'_, R>,
     recorded: &str,
     shelf: &mut S,
     out: &mut K,
 ) -> Answer
+where
+    S: Shelf,
+    K: Sink,
+    R: Threads,
     ensures meets { Meets (upgrade_outcome (known_bytes (S.sees shelf.old) recorded.now))
         (KnowsBytes (S.sees shelf.old) (recorded.now ∷ []))
         (Rose (S.sees shelf.old).faults (S.sees shelf.new).faults)

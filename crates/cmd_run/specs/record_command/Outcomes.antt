@@ -1,14 +1,12 @@
 -- What `demo` and `record` give.
-use Rattle.std.specs.Prelude.{◌≡◌, ℕ, pos, Bool, true, List, [], ◌∷◌, length, codes, Option}
-use Rattle.std.specs.Prelude.{Result, Ok, Err, IsSome}
+use Rattle.std.specs.Prelude.{ℕ, pos, Bool, true, List, [], ◌∷◌, length, codes, Option}
+use Rattle.std.specs.Prelude.{Result, Ok, Err}
 use Rattle.std.specs.Option.{unwrap_or}
 use Rattle.det_values.specs.Values.{ProfileValue}
 use Rattle.det_values.specs.declared.format.Format.TheVariants.{Two}
 use Rattle.det_values.specs.declared.event.Policy.TheVariants.{Last}
 use Rattle.det_values.specs.declared.job_kind.JobKind.{JobKind}
-use Rattle.det_io.specs.Count.{Rose}
 use Rattle.det_io.specs.Shelf.{ShelfState, AsksPrefix}
-use Rattle.det_io.specs.Traffic.{SinkRun}
 use Rattle.det_io.specs.declared.failure.Stopped.{Stopped}
 use Rattle.det_io.specs.declared.failure.Stopped.TheVariants.{Refused, Failed}
 use Rattle.job.specs.Meaning.{Meaning}
@@ -23,9 +21,8 @@ use Rattle.cli_answers.specs.declared.answer.BadManifest.{BadManifest}
 use Rattle.cli_answers.specs.declared.answer.Answer.{Answer}
 use Rattle.cli_answers.specs.declared.answer.Answer.TheVariants as answers
 use Rattle.cli_answers.specs.Answers.{failed}
-use Rattle.cli_answers.specs.Ends.{Work, can_end, reads_nothing}
-use Rattle.cli_answers.specs.Outcome.{Outcome, Meets, KnowsBytes, known_bytes}
-use Rattle.cli_answers.specs.Slots.{KeepsSlots}
+use Rattle.cli_answers.specs.Ends.{Work, reads_nothing}
+use Rattle.cli_answers.specs.Outcome.{Outcome, KnowsBytes, known_bytes}
 use Rattle.run_setup.specs.Setup.{setup_of, with_manifest}
 
 -- `demo` reads a stimulus, and `record` a manifest as well
@@ -92,13 +89,3 @@ OpensOnly first last names = KnowsBytes first names → AsksPrefix first last na
 abbrev pub record_outcome : (strict : Bool) (manifest stimulus : List ℕ) → Option ℕ → Outcome
 record_outcome strict manifest stimulus seed = with_manifest (λ m.
     recorded_by_kind m.kind (profile_of m (unwrap_or seed 0)) stimulus) (setup_of strict manifest)
-
--- The answer of a command over the stimulus under a name, whose other names were read before. Its
--- outcome is that of the stimulus.
-pub record AnswersStimulus (outcome : List ℕ → Outcome) (name : List ℕ) (first last : ShelfState)
-    (out : SinkRun) (answer : Answer) : Type 0 where
-  pub meets : Meets (outcome (known_bytes first name)) (IsSome (first.holds name))
-      (Rose first.faults last.faults) out answer
-  pub ends : can_end demo_work answer ≡ true
-  pub asked : AsksPrefix first last (name ∷ [])
-  pub earlier : KeepsSlots first last

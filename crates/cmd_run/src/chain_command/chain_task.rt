@@ -35,13 +35,17 @@ pub struct ChainTask<'t> {
 }
 
 /// Reads the second manifest, and chains its client to the first one.
-fn chain_second<S: Shelf, K: Sink, R: Threads>(
+fn chain_second<S, K, R>(
     host: &Host<'_, R>,
     first: PlannedRun<'_, R>,
     task: &ChainTask<'_>,
     shelf: &mut S,
     out: &mut K,
 ) -> Answer
+where
+    S: Shelf,
+    K: Sink,
+    R: Threads,
     requires workers { IfSome task.now.options.workers IsWorkers }
     requires first { IsGoodRun first.run.kind first.run.profile }
     ensures meets { Meets
@@ -71,12 +75,16 @@ fn chain_second<S: Shelf, K: Sink, R: Threads>(
 /// Writes the record of a second client, whose samples are the outputs of a first one over a
 /// stimulus. The first client's record is made and dropped. The first manifest is read and checked
 /// before the second is opened, and the second before the stimulus.
-pub fn chain<S: Shelf, K: Sink, R: Threads>(
+pub fn chain<S, K, R>(
     host: &Host<'_, R>,
     task: &ChainTask<'_>,
     shelf: &mut S,
     out: &mut K,
 ) -> Answer
+where
+    S: Shelf,
+    K: Sink,
+    R: Threads,
     requires workers { IfSome task.now.options.workers IsWorkers }
     ensures meets { Meets
         (chain_outcome task.now.options.strict (known_bytes (S.sees shelf.old) task.now.first.now)

@@ -55,12 +55,11 @@ fn demo_profile(alloc: Global) -> Result<Profile, AllocError>
 }
 
 /// Writes the record of the built-in profile over the stimulus of this name.
-pub fn demo<S: Shelf, K: Sink, R: Threads>(
-    host: &Host<'_, R>,
-    stimulus: &str,
-    shelf: &mut S,
-    out: &mut K,
-) -> Answer
+pub fn demo<S, K, R>(host: &Host<'_, R>, stimulus: &str, shelf: &mut S, out: &mut K) -> Answer
+where
+    S: Shelf,
+    K: Sink,
+    R: Threads,
     ensures meets { Meets (demo_outcome (known_bytes (S.sees shelf.old) stimulus.now))
         (KnowsBytes (S.sees shelf.old) (stimulus.now ∷ []))
         (Rose (S.sees shelf.old).faults (S.sees shelf.new).faults)

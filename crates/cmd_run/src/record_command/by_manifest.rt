@@ -29,12 +29,16 @@ pub struct RecordTask<'t> {
 
 /// Writes the record of a manifest's profile over a stimulus. The manifest is read and checked
 /// before the stimulus is opened.
-pub fn record_by_manifest<S: Shelf, K: Sink, R: Threads>(
+pub fn record_by_manifest<S, K, R>(
     host: &Host<'_, R>,
     task: &RecordTask<'_>,
     shelf: &mut S,
     out: &mut K,
 ) -> Answer
+where
+    S: Shelf,
+    K: Sink,
+    R: Threads,
     requires workers { IfSome task.now.options.workers IsWorkers }
     ensures meets { Meets
         (record_outcome task.now.options.strict

@@ -1,5 +1,5 @@
 -- How a chain ends.
-use Rattle.std.proofs.Common.{◌≡◌, inl, inr, ℕ, List, [], ◌∷◌, ◌++◌, length, sym, ap, subst, ◌∙◌}
+use Rattle.std.proofs.Common.{◌≡◌, inl, inr, ℕ, List, [], ◌∷◌, ◌++◌, length, sym, ap, subst, ◌∙◌, append-nil}
 use Rattle.std.specs.Prelude.{false, Result, Ok, Err}
 use Rattle.det_values.specs.Values.{ProfileValue}
 use Rattle.det_values.specs.declared.frames.CycleInput.{CycleInput}
@@ -12,7 +12,7 @@ use Rattle.det_io.specs.declared.failure.Failure.{Failure}
 use Rattle.det_io.specs.declared.failure.Failure.TheVariants.{Read, Write, OutOfMemory}
 use Rattle.det_io.specs.declared.failure.Stopped.{Stopped}
 use Rattle.det_io.specs.declared.failure.Stopped.TheVariants.{Refused, Failed}
-use Rattle.det_io.proofs.Prefixes.{prefix-none, prefix-then}
+use Rattle.det_io.proofs.Prefixes.{prefix-none, prefix-same, prefix-then}
 use Rattle.det_io.proofs.Growth.{grew-then, grew-then-part, part-whole, part-wider}
 use Rattle.det_io.proofs.SlotReads.{reads-none}
 use Rattle.job.specs.Meaning.{Meaning}
@@ -22,8 +22,7 @@ use Rattle.stimulus.specs.Reading.{Reading, Ending, Terminated, BadLine, inputs_
 use Rattle.stimulus.proofs.Growing.{blocks_grow, bad_stays}
 use Rattle.recorder.specs.declared.run_writer.recording.Recording.{Recording}
 use Rattle.recorder.specs.run_writer.Record.{record_with, opening}
-use Rattle.recorder.proofs.lemmas.run_writer.Growing.{record-opened, record-next, record-ended}
-use Rattle.recorder.proofs.Ending.{at_text, record-within, all-first, record-is}
+use Rattle.recorder.proofs.lemmas.run_writer.Growing.{record-opened, record-next, record-ended, record-front}
 use Rattle.stimulus.specs.declared.slot_reader.stimulus_reader.StimulusReader.{StimulusReader}
 use Rattle.stimulus.specs.slot_reader.StandsFor.{InputIs, IsNext, HasAll, IsWhole, IsBad, events_of}
 use Rattle.recorder.specs.Record.{is_terminated, record_of}
@@ -33,6 +32,10 @@ use Rattle.cmd_run.specs.chain.ChainEnds.{Sinks, BothGrew, BothGrewByPrefix, Cou
 use Rattle.cmd_run.specs.chain.ChainCycle.{IsCut, CutOff, first_frame, second_frame}
 use Rattle.cmd_run.proofs.lemmas.chain.Linking.{second-opened, second-next, second-ended, second-front}
 use Rattle.cmd_run.proofs.lemmas.chain.Running.{Running, joined}
+
+-- a fact about what was read is one about the whole text where nothing follows
+at_text : (P : List ℕ → Type 0) (read rest : List ℕ) → rest ≡ [] → P read → P (read ++ rest)
+at_text P read rest none p = subst P (sym (ap (λ l. read ++ l) none ∙ append-nil read)) p
 
 -- growth by a prefix of a record is one by a prefix of the record that goes on
 wider : (sinks : Sinks) (bytes others all rest : List ℕ) → BothGrewByPrefix sinks bytes others → IsPrefix bytes all → IsPrefix others rest
@@ -70,7 +73,7 @@ module _ {S G E L P : Type 0} (m : Meaning S G E L P) (first : ProfileValue) {T 
       × IsPrefix (second_with m first n second given false) (second_of m first n second (read ++ rest))
   within given read rest front =
       let longer = prefix-then _ _ _ front (blocks_grow (length first.events) read rest) in (
-        record-within m first given read rest front,
+        record-front m first given (blocks (length first.events) (read ++ rest)) _ longer,
         second-front m first n second given (blocks (length first.events) (read ++ rest)) _ longer,
       )
 
@@ -82,6 +85,17 @@ module _ {S G E L P : Type 0} (m : Meaning S G E L P) (first : ProfileValue) {T 
       let longer = within given read rest front in
       wider sinks (record_with m first given false) (second_with m first n second given false) (record_of m first (read ++ rest))
       (second_of m first n second (read ++ rest)) grew longer.0 longer.1
+
+  all-first : (read : List ℕ) (given : List CycleInput) → blocks (length first.events) read ≡ given
+      → IsPrefix given (blocks (length first.events) read)
+  all-first read given is = subst (λ xs. IsPrefix given xs) (sym is) (prefix-same given)
+
+  record-is : (text : List ℕ) (given : List CycleInput) (ended : Ending) → blocks (length first.events) text ≡ given
+      → ending (length first.events) text ≡ ended
+      → record_of m first text ≡ record_with m first given (is_terminated ended)
+  record-is text given ended is ends =
+      ap (λ e. record_with m first (blocks (length first.events) text) (is_terminated e)) ends
+      ∙ ap (λ xs. record_with m first xs (is_terminated ended)) is
 
   second-is : (text : List ℕ) (given : List CycleInput) (ended : Ending) → blocks (length first.events) text ≡ given
       → ending (length first.events) text ≡ ended
@@ -97,7 +111,7 @@ module _ {S G E L P : Type 0} (m : Meaning S G E L P) (first : ProfileValue) {T 
   stops-at sinks text given line is ends grew = record {
     bad = ends;
     grew = record {
-      first = subst (Grew sinks.first.before sinks.first.after) (sym (record-is m first text given (BadLine line) is ends)) grew.first;
+      first = subst (Grew sinks.first.before sinks.first.after) (sym (record-is text given (BadLine line) is ends)) grew.first;
       second = subst (Grew sinks.second.before sinks.second.after) (sym (second-is text given (BadLine line) is ends)) grew.second;
     };
   }
@@ -154,7 +168,7 @@ module _ {S G E L P : Type 0} (m : Meaning S G E L P) (first : ProfileValue) {T 
             subst (λ xs. BothGrew sinks (record_with m first xs false) (second_with m first n second xs false)) (sym has.blocks)
                 running.grew,
           );
-          answers = λ rest end. part-of sinks given all rest (all-first m first all given has.blocks) (whole sinks _ _ running.grew);
+          answers = λ rest end. part-of sinks given all rest (all-first all given has.blocks) (whole sinks _ _ running.grew);
         },
       )
   reading-stopped slot shelf sinks next (Failed Write) running (all, reads, h) events = absurd h
@@ -195,7 +209,7 @@ module _ {S G E L P : Type 0} (m : Meaning S G E L P) (first : ProfileValue) {T 
         → GrewByPrefix sinks.second.after step.second.after (spelled_frame second.format Terminate)
         → HasRun slot shelf (joined sinks step) (Err (Failed failure))
     close-failed failure all reads ended cut one two =
-        let is = record-is m first all given Terminated ended.blocks ended.ending ∙ record-ended m first given in
+        let is = record-is all given Terminated ended.blocks ended.ending ∙ record-ended m first given in
         let so = second-is all given Terminated ended.blocks ended.ending ∙ second-ended m first n second given in
         let grew : BothGrewByPrefix (joined sinks step) (record_of m first all) (second_of m first n second all) = record {
           first = subst (GrewByPrefix sinks.first.before step.first.after) (sym is)
@@ -219,7 +233,7 @@ module _ {S G E L P : Type 0} (m : Meaning S G E L P) (first : ProfileValue) {T 
         → Grew sinks.second.after step.second.after (spelled_frame second.format Terminate)
         → HasRun slot shelf (joined sinks step) (Ok counts)
     closed counts all reads ended counted one two =
-        let is = record-is m first all given Terminated ended.blocks ended.ending ∙ record-ended m first given in
+        let is = record-is all given Terminated ended.blocks ended.ending ∙ record-ended m first given in
         let so = second-is all given Terminated ended.blocks ended.ending ∙ second-ended m first n second given in
         let finishes : Finishes m first n second all counts (joined sinks step) = record {
           good = ended.ending;

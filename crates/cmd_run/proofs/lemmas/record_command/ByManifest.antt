@@ -20,7 +20,7 @@ use Rattle.cli_answers.proofs.AnswerMeets.{unwritten}
 use Rattle.run_setup.specs.Setup.{setup_of, with_manifest}
 use Rattle.run_setup.proofs.Ending.{meets-end}
 use Rattle.cmd_run.specs.record_command.Outcomes.{demo_profile, demo_outcome, recorded_by_kind}
-use Rattle.cmd_run.specs.record_command.Outcomes.{record_names, record_outcome, record_opens, OpensOnly}
+use Rattle.cmd_run.specs.record_command.Outcomes.{record_names, record_outcome}
 
 -- a manifest's profile with a seed, over a stimulus, or the refusal of the manifest
 abbrev pub recorded_by : ℕ → List ℕ → Result ManifestValue BadManifest → Outcome
@@ -56,10 +56,6 @@ module _ (strict : Bool) (first : ShelfState) (name stimulus : List ℕ) where
   asked-manifest last (Ok m) asked =
       asks-then-prefix first last last (name ∷ []) (stimulus ∷ []) asked (asks-prefix-none last last (stimulus ∷ []) refl)
   asked-manifest last (Err why) asked = asks-all first last (name ∷ []) asked
-
-  -- where no run was planned, nothing else was opened
-  pub opens-manifest : (last : ShelfState) → Asks first last (name ∷ []) → OpensOnly first last (record_opens first strict name stimulus)
-  opens-manifest last asked is_known = asked-manifest last (setup_of strict (known_bytes first name)) asked
 
   module _ (m : ManifestValue) (is : IsSome (first.holds name) → setup_of strict (known_bytes first name) ≡ Ok m) where
     -- where the bytes of the manifest are known it is this one

@@ -1,4 +1,4 @@
-use Rattle.std.proofs.Common.{◌≡◌, [], ◌∷◌, true, false, refl, sym, ◌∙◌, inl, inr, arith}
+use Rattle.std.proofs.Common.{[], ◌∷◌, true, false, refl, sym, ◌∙◌, inl, inr, arith}
 use Rattle.std.specs.Prelude.{Some, None}
 use Rattle.det_io.proofs.Opening.{asks-all, asks-prefix-none}
 use Rattle.cli_answers.specs.Ends.{reads_nothing, reads_records}
@@ -10,10 +10,8 @@ use Rattle.det_cli.proofs.Helping.{help-there}
 use Rattle.det_cli.proofs.Joining.{same-command, sole-name, no-name, workers-fit, is-kept, is-gone, no-difference, help-is}
 use Rattle.det_cli.proofs.Joining.{runs-command, reported-runs}
 use Rattle.det_cli.proofs.Joining.{same-reports, names-enough}
-use Rattle.det_cli.proofs.Plain.{runs-shown, plain-command, plain-sole, runs-quiet}
+use Rattle.det_cli.proofs.Plain.{plain-command, plain-sole, runs-quiet}
 use Rattle.det_cli.proofs.ThroughBuffer.{record-of}
-use Rattle.det_cli.proofs.det_program.dispatch_command.Given.{Over}
-use Rattle.det_cli.proofs.det_program.dispatch_command.Goals.{In-Salvage}
 use Rattle.det_cli.proofs.det_program.dispatch_command.Goals as goal
 
 pub returns-in-Needs : goal.returns-in-Needs
@@ -51,11 +49,20 @@ returns-in-Sim g c =
     let seen = command_value c.args.command in
     let first = g.S.Slots.sees c.args.shelf.now in
     let number = c.number.ensures in
-    runs-command first _ _ _ _ _ seen _ (same-command seen words.Sim seen.names c.in-Sim.is refl)
-    (runs-shown refl (rw (sym number) (meets-under _ _ _ _ _ _ _ (λ t. tt) (λ r. absurd r) c.sim.ensures.meets)) (λ t e. tt)
-    c.sim.ensures.ends (asks-prefix-none first first [] refl) (λ t. asks-prefix-none first first [] refl) (keeps-same first)
-    c.sim.ensures.gone (λ is. absurd (no-difference reads_nothing _ is c.sim.ensures.ends refl))
-    (rw (sym number) (λ t ne. c.sim.ensures.saw ne)))
+    runs-command first _ _ _ _ _ seen _ (same-command seen words.Sim seen.names c.in-Sim.is refl) (record {
+      meets = rw (sym number) (meets-under _ _ _ _ _ _ _ (λ t. tt) (λ r. absurd r) c.sim.ensures.meets);
+      broken = λ t e. tt;
+      ends = c.sim.ensures.ends;
+      asked = asks-prefix-none first first [] refl;
+      needed = λ t. asks-prefix-none first first [] refl;
+      earlier = keeps-same first;
+      left = λ e. absurd cc;
+      gone = λ e done. elim done [
+        | inl is ↦ c.sim.ensures.gone is
+        | inr is ↦ absurd (no-difference reads_nothing _ is c.sim.ensures.ends refl)
+      ];
+      saw = rw (sym number) (λ t ne. c.sim.ensures.saw ne);
+    })
 
 pub returns-in-Some : goal.returns-in-Some
 returns-in-Some g c =
@@ -87,8 +94,20 @@ returns-in-Check g c =
     let names = c.name-first.result.now ∷ [] in
     let is = sole-name seen words.Check c.requires.range c.in-Check.is refl refl c.name-first.result.now c.name-first.ensures in
     runs-command (g.S.Slots.sees c.args.shelf.now) _ _ _ _ _ seen _ (same-command seen words.Check names c.in-Check.is is)
-    (runs-shown refl c.check.ensures.meets (λ t e. tt) c.check.ensures.ends c.check.ensures.asked (λ t. c.check.ensures.asked)
-    c.check.ensures.earlier c.check.ensures.gone c.check.ensures.gone_differing (λ t ne. c.check.ensures.saw ne t))
+    (record {
+      meets = c.check.ensures.meets;
+      broken = λ t e. tt;
+      ends = c.check.ensures.ends;
+      asked = c.check.ensures.asked;
+      needed = λ t. c.check.ensures.asked;
+      earlier = c.check.ensures.earlier;
+      left = λ e. absurd cc;
+      gone = λ e done. elim done [
+        | inl is ↦ c.check.ensures.gone is
+        | inr is ↦ c.check.ensures.gone_differing is
+      ];
+      saw = λ t ne. c.check.ensures.saw ne t;
+    })
 
 pub returns-in-Vote : goal.returns-in-Vote
 returns-in-Vote g c = c.dispatch_vote.ensures _
@@ -112,26 +131,34 @@ returns-in-Compare g c =
     plain-command (command_value c.args.command) words.Compare _ c.in-Compare.is (sym c.as_slice-in-Compare.ensures.names) _ _ _ _ _ refl
     c.compare.ensures.meets c.compare.ensures.ends c.compare.ensures.asked (λ t. c.compare.ensures.asked) c.compare.ensures.earlier
 
--- the one name of `salvage`
-sole-record : (g : Over) (c : In-Salvage g) → (command_value c.args.command).names ≡ c.name-first.result.now ∷ []
-sole-record g c =
-    sole-name (command_value c.args.command) words.Salvage c.requires.range c.in-Salvage.is refl refl c.name-first.result.now
-    c.name-first.ensures
-
 pub returns-then-command : goal.returns-then-command
 returns-then-command g c =
-    let sole = sole-record g (goal.at.returns-then-command g c).In-Salvage in
-    runs-command (g.S.Slots.sees c.args.shelf.now) _ _ _ _ _ (command_value c.args.command) _
-    (same-reports _ words.Salvage _ true c.in-Salvage.is sole c.if-command.true)
-    (let told = c.salvage_reports.ensures in
-    runs-shown refl told.meets (λ t e. told.broken e) told.ends told.asked (λ t. told.asked) told.earlier told.gone
-    (λ is. absurd (no-difference reads_records _ is told.ends refl)) (λ t ne e. reported-runs (told.saw ne t) (told.meets.part t)))
+    let seen = command_value c.args.command in
+    let names = c.name-first.result.now ∷ [] in
+    let is = sole-name seen words.Salvage c.requires.range c.in-Salvage.is refl refl c.name-first.result.now c.name-first.ensures in
+    runs-command (g.S.Slots.sees c.args.shelf.now) _ _ _ _ _ seen _
+    (same-reports seen words.Salvage names true c.in-Salvage.is is c.if-command.true) (record {
+      meets = c.salvage_reports.ensures.meets;
+      broken = λ t e. c.salvage_reports.ensures.broken e;
+      ends = c.salvage_reports.ensures.ends;
+      asked = c.salvage_reports.ensures.asked;
+      needed = λ t. c.salvage_reports.ensures.asked;
+      earlier = c.salvage_reports.ensures.earlier;
+      left = λ e. absurd cc;
+      gone = λ e done. elim done [
+        | inl is ↦ c.salvage_reports.ensures.gone is
+        | inr is ↦ absurd (no-difference reads_records _ is c.salvage_reports.ensures.ends refl)
+      ];
+      saw = λ t ne e. reported-runs (c.salvage_reports.ensures.saw ne t) (c.salvage_reports.ensures.meets.part t);
+    })
 
 pub returns-else-command : goal.returns-else-command
 returns-else-command g c =
-    let sole = sole-record g (goal.at.returns-else-command g c).In-Salvage in
-    runs-command (g.S.Slots.sees c.args.shelf.now) _ _ _ _ _ (command_value c.args.command) _
-    (same-reports _ words.Salvage _ false c.in-Salvage.is sole c.if-command.false)
+    let seen = command_value c.args.command in
+    let names = c.name-first.result.now ∷ [] in
+    let is = sole-name seen words.Salvage c.requires.range c.in-Salvage.is refl refl c.name-first.result.now c.name-first.ensures in
+    runs-command (g.S.Slots.sees c.args.shelf.now) _ _ _ _ _ seen _
+    (same-reports seen words.Salvage names false c.in-Salvage.is is c.if-command.false)
     (runs-quiet (record { broken = λ t e. c.salvage.ensures.broken e t; hidden = refl; seen = λ holds audience e. absurd cc })
     c.salvage.ensures.meets c.salvage.ensures.ends c.salvage.ensures.asked (λ t. c.salvage.ensures.asked) c.salvage.ensures.earlier)
 

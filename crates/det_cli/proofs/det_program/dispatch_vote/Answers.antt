@@ -1,33 +1,30 @@
-use Rattle.std.proofs.Common.{◌≤◌, length, refl, sym}
+use Rattle.std.proofs.Common.{refl, sym}
 use Rattle.std.specs.Prelude.{true, false}
 use Rattle.cli_words.specs.declared.table.CommandWord.TheVariants as words
 use Rattle.cli_words.specs.Command.{command_value}
 use Rattle.det_cli.proofs.Joining.{same-dissent, names-enough, names-few, runs-command}
 use Rattle.det_cli.proofs.Plain.{runs-quiet}
-use Rattle.det_cli.proofs.det_program.dispatch_vote.Given.{Over}
-use Rattle.det_cli.proofs.det_program.dispatch_vote.Goals.{After-as_slice-copies}
 use Rattle.det_cli.proofs.det_program.dispatch_vote.Goals as goal
 
--- the copies are as many as the command's names
-enough : (g : Over) (c : After-as_slice-copies g) → 3 ≤ length c.as_slice-copies.result.now
-enough g c = names-enough (command_value c.args.command.now) words.Vote c.requires.range c.requires.word _ (λ name. name.now)
+pub vote_dissent-requires-clause-some : goal.vote_dissent-requires-clause-some
+vote_dissent-requires-clause-some g c =
+    names-enough (command_value c.args.command.now) words.Vote c.requires.range c.requires.word _ (λ name. name.now)
     c.as_slice-copies.ensures.names 3 refl
 
-few : (g : Over) (c : After-as_slice-copies g) → length c.as_slice-copies.result.now ≤ 7
-few g c = names-few (command_value c.args.command.now) words.Vote c.requires.range c.requires.word _ (λ name. name.now)
+pub vote_dissent-requires-clause-few : goal.vote_dissent-requires-clause-few
+vote_dissent-requires-clause-few g c =
+    names-few (command_value c.args.command.now) words.Vote c.requires.range c.requires.word _ (λ name. name.now)
     c.as_slice-copies.ensures.names 7 refl
 
-pub vote_dissent-requires-clause-some : goal.vote_dissent-requires-clause-some
-vote_dissent-requires-clause-some g c = enough g (goal.at.vote_dissent-requires-clause-some g c).After-as_slice-copies
-
-pub vote_dissent-requires-clause-few : goal.vote_dissent-requires-clause-few
-vote_dissent-requires-clause-few g c = few g (goal.at.vote_dissent-requires-clause-few g c).After-as_slice-copies
-
 pub vote-requires-clause-some : goal.vote-requires-clause-some
-vote-requires-clause-some g c = enough g (goal.at.vote-requires-clause-some g c).After-as_slice-copies
+vote-requires-clause-some g c =
+    names-enough (command_value c.args.command.now) words.Vote c.requires.range c.requires.word _ (λ name. name.now)
+    c.as_slice-copies.ensures.names 3 refl
 
 pub vote-requires-clause-few : goal.vote-requires-clause-few
-vote-requires-clause-few g c = few g (goal.at.vote-requires-clause-few g c).After-as_slice-copies
+vote-requires-clause-few g c =
+    names-few (command_value c.args.command.now) words.Vote c.requires.range c.requires.word _ (λ name. name.now)
+    c.as_slice-copies.ensures.names 7 refl
 
 pub returns-then-command : goal.returns-then-command
 returns-then-command g c audience =

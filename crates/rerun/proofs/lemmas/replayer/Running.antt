@@ -33,7 +33,6 @@ use Rattle.recorder.specs.run_writer.Recording.{Cuts, IsRecordingAfter, Ran}
 use Rattle.recorder.proofs.lemmas.run_writer.Growing.{record-opened, record-next}
 use Rattle.rerun.specs.replayer.ReplayRecord.{inputs}
 use Rattle.rerun.specs.replayer.NextInput.{HasGiven, HasAll, ReadsOn, InputIs}
-use Rattle.rerun.proofs.Reading.{unwritten}
 use Rattle.rerun.proofs.lemmas.replayer.Giving.{inputs-first}
 
 -- what the reader returns, for every record whose header it gave
@@ -123,8 +122,10 @@ module _ {S G E L P : Type 0} {m : Meaning S G E L P} {profile : ProfileValue} w
   pub no-write : {first now : ShelfState} {slot : ℕ} {old next : FrameReader} {given : List CycleInput} (why : Stopped RecordFault)
       (read : List ℕ) → StandsFor old read (items.Header profile ∷ []) → Next m profile first now slot old next given (Err why)
       → (sink : SinkRun) → SinkTraffic sink None → SinkTraffic sink (failure_in {A = Counts} (Err why))
-  no-write why read stands n sink = unwritten _ why sink (λ is.
-      (subst (λ (w : Stopped RecordFault). Next m profile _ _ _ _ _ _ (Err w)) is n).is read stands)
+  no-write (Refused fault) read stands n sink t = t
+  no-write (Failed Read) read stands n sink t = record { cause = λ e. cc; counted = t.counted }
+  no-write (Failed Write) read stands n sink t = absurd (n.is read stands)
+  no-write (Failed OutOfMemory) read stands n sink t = record { cause = λ e. cc; counted = t.counted }
 
 -- fewer than 1,000,000 cycles were run before the next one
 pub few-cycles : {S G E L P : Type 0} {m : Meaning S G E L P} {recording : Recording S G E L P} {given : List CycleInput}

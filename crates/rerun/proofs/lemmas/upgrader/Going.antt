@@ -33,7 +33,6 @@ use Rattle.recorder.specs.declared.run_writer.recording.Recording.{Recording}
 use Rattle.record_reader.specs.InItems.{frame_in}
 use Rattle.rerun.specs.checker.RerunFrames.{IsEngineAfter, input_of, rerun_frame}
 use Rattle.copies.specs.declared.check_verdict.CheckVerdict.{CheckVerdict}
-use Rattle.rerun.proofs.Reading.{unwritten}
 use Rattle.rerun.proofs.lemmas.checker.Departing.{inputs_of}
 use Rattle.rerun.proofs.lemmas.checker.Records.{frames-are}
 use Rattle.rerun.proofs.lemmas.checker.Running.{items_with, items-next, inputs-next, HasCompared, Next, compared-then}
@@ -167,8 +166,10 @@ module _ {S G E L P : Type 0} (m : Meaning S G E L P) (profile : ProfileValue) w
   pub no-write : {first now : ShelfState} {slot : ℕ} {old next : FrameReader} {done : List Frame} (why : Stopped RecordFault)
       (read : List ℕ) → StandsFor old read (items.Header profile ∷ []) → Next m profile first now slot old next done (Err why)
       → (sink : SinkRun) → SinkTraffic sink None → SinkTraffic sink (failure_in {A = CheckVerdict} (Err why))
-  no-write why read stands n sink = unwritten _ why sink (λ is.
-      (subst (λ (w : Stopped RecordFault). Next m profile _ _ _ _ _ _ (Err w)) is n).is read stands)
+  no-write (Refused fault) read stands n sink t = t
+  no-write (Failed Read) read stands n sink t = record { cause = λ e. cc; counted = t.counted }
+  no-write (Failed Write) read stands n sink t = absurd (n.is read stands)
+  no-write (Failed OutOfMemory) read stands n sink t = record { cause = λ e. cc; counted = t.counted }
 
 -- no read failed where a frame wasn't taken
 pub no-read : (failure : Failure) (difference : Option Difference) (bytes : List ℕ) (goes_on : Type 0) (shelf : ShelfRun) (out : SinkRun)

@@ -5,31 +5,12 @@ use Rattle.std.proofs.lemmas.Result.{err_from_is_err_and}
 use Rattle.det_values.specs.Values.{ProfileValue, SampleValue}
 use Rattle.det_io.specs.Traffic.{shelf_run}
 use Rattle.stimulus.proofs.lemmas.slot_reader.Reading.{none-of}
-use Rattle.cmd_run.specs.chain.ChainEnds.{Sinks, sink_runs}
+use Rattle.cmd_run.specs.chain.ChainEnds.{sink_runs}
 use Rattle.cmd_run.proofs.lemmas.chain.Running.{running-opened, next-read, next-input, next-end, running-next, few-cycles, no-write}
 use Rattle.cmd_run.proofs.lemmas.chain.Running.{no-read, joined, unfailed-shelf, unfailed-sinks, shelf-then}
 use Rattle.cmd_run.proofs.lemmas.chain.Ending.{open-failed, reading-stopped, cycle_chain-failed, close-failed, closed}
 use Rattle.cmd_run.proofs.lemmas.chain.KnownStimulus.{chained}
-use Rattle.cmd_run.proofs.chain.run_chain.chain_run.Given.{Over}
-use Rattle.cmd_run.proofs.chain.run_chain.chain_run.Goals.{After-next_input, After-cycle_chain, After-close_chain}
 use Rattle.cmd_run.proofs.chain.run_chain.chain_run.Goals as goal
-
--- what the sinks took before a turn of the loop
-abbrev sinks-before : (g : Over) → After-next_input g → Sinks
-sinks-before g c =
-    sink_runs g.K.Sink.took g.K.Sink.faults c.args.first_sink.now c.cycles.first_sink
-    g.L.Sink.took g.L.Sink.faults c.args.second_sink.now c.cycles.second_sink
-
--- and by its cycle, or by the end of both runs
-abbrev cycle-sinks : (g : Over) → After-cycle_chain g → Sinks
-cycle-sinks g c =
-    sink_runs g.K.Sink.took g.K.Sink.faults c.cycles.first_sink c.cycle_chain.new.first_sink
-    g.L.Sink.took g.L.Sink.faults c.cycles.second_sink c.cycle_chain.new.second_sink
-
-abbrev close-sinks : (g : Over) → After-close_chain g → Sinks
-close-sinks g c =
-    sink_runs g.K.Sink.took g.K.Sink.faults c.cycles.first_sink c.close_chain.new.first_sink
-    g.L.Sink.took g.L.Sink.faults c.cycles.second_sink c.close_chain.new.second_sink
 
 pub returns-in_err-open_chain-clause-chained : goal.returns-in_err-open_chain-clause-chained
 returns-in_err-open_chain-clause-chained g c =
@@ -75,7 +56,8 @@ returns-in_err-input-clause-chained g c =
     let got = next-read c.next_input.new.self (Err why) running c.in_err-input.ensures.input c.cycles.invariant.slot in
     let events = c.in_err-input.ensures.events ∙ c.cycles.invariant.events ∙ c.requires.events in
     let shelf = shelf_run g.S.Slots.sees g.S.Slots.stays c.args.shelf.now c.next_input.new.shelf in
-    let sinks = sinks-before g (goal.at.returns-in_err-input-clause-chained g c).After-next_input in
+    let sinks = sink_runs g.K.Sink.took g.K.Sink.faults c.args.first_sink.now c.cycles.first_sink
+    g.L.Sink.took g.L.Sink.faults c.args.second_sink.now c.cycles.second_sink in
     rw (p.1, p.2) (chained _ shelf sinks _ (reading-stopped _ _ _ _ _ shelf sinks c.next_input.new.self why running got events))
 
 pub returns-in_err-input-clause-shelf_traffic : goal.returns-in_err-input-clause-shelf_traffic
@@ -117,8 +99,10 @@ returns-in_err-spare-clause-chained g c =
     let got = next-input c.in_ok-input.field-0 c.next_input.new.self running.2 c.in_ok-input.ensures.input c.cycles.invariant.slot events
     c.in-Some.input c.in-Some.is in
     let shelf = shelf_run g.S.Slots.sees g.S.Slots.stays c.args.shelf.now c.next_input.new.shelf in
-    let sinks = sinks-before g (goal.at.returns-in_err-spare-clause-chained g c).After-next_input in
-    let step = cycle-sinks g (goal.at.returns-in_err-spare-clause-chained g c).After-cycle_chain in
+    let sinks = sink_runs g.K.Sink.took g.K.Sink.faults c.args.first_sink.now c.cycles.first_sink
+    g.L.Sink.took g.L.Sink.faults c.args.second_sink.now c.cycles.second_sink in
+    let step = sink_runs g.K.Sink.took g.K.Sink.faults c.cycles.first_sink c.cycle_chain.new.first_sink
+    g.L.Sink.took g.L.Sink.faults c.cycles.second_sink c.cycle_chain.new.second_sink in
     let cut = rw (c.cycles.invariant.first_profile, c.cycles.invariant.second_profile) at
     (c.in_err-spare.ensures.cut running.1 running.2.stands) in
     rw (p.1, p.2) (chained _ shelf (joined sinks step) _
@@ -150,8 +134,10 @@ cycles-preserved g c =
     let running = c.cycles.invariant.running in
     let got = next-input c.in_ok-input.field-0 c.next_input.new.self running.2 c.in_ok-input.ensures.input c.cycles.invariant.slot refl
     c.in-Some.input c.in-Some.is in
-    let sinks = sinks-before g (goal.at.cycles-preserved g c).After-next_input in
-    let step = cycle-sinks g (goal.at.cycles-preserved g c).After-cycle_chain in
+    let sinks = sink_runs g.K.Sink.took g.K.Sink.faults c.args.first_sink.now c.cycles.first_sink
+    g.L.Sink.took g.L.Sink.faults c.args.second_sink.now c.cycles.second_sink in
+    let step = sink_runs g.K.Sink.took g.K.Sink.faults c.cycles.first_sink c.cycle_chain.new.first_sink
+    g.L.Sink.took g.L.Sink.faults c.cycles.second_sink c.cycle_chain.new.second_sink in
     let linked = rw (c.cycles.invariant.first_profile, c.cycles.invariant.second_profile) at
     (c.in_ok-spare.ensures.linked running.1 running.2.stands) in
     rw c.take_back.ensures (record {
@@ -180,8 +166,10 @@ returns-in_err-counts-clause-chained g c =
     let got = next-end c.in_ok-input.field-0 c.next_input.new.self running c.in_ok-input.ensures.input c.cycles.invariant.slot events
     (none-of c.in_ok-input.field-0 c.in_default.not-Some) in
     let shelf = shelf_run g.S.Slots.sees g.S.Slots.stays c.args.shelf.now c.next_input.new.shelf in
-    let sinks = sinks-before g (goal.at.returns-in_err-counts-clause-chained g c).After-next_input in
-    let step = close-sinks g (goal.at.returns-in_err-counts-clause-chained g c).After-close_chain in
+    let sinks = sink_runs g.K.Sink.took g.K.Sink.faults c.args.first_sink.now c.cycles.first_sink
+    g.L.Sink.took g.L.Sink.faults c.args.second_sink.now c.cycles.second_sink in
+    let step = sink_runs g.K.Sink.took g.K.Sink.faults c.cycles.first_sink c.close_chain.new.first_sink
+    g.L.Sink.took g.L.Sink.faults c.cycles.second_sink c.close_chain.new.second_sink in
     let cut = rw (c.cycles.invariant.first_profile, c.cycles.invariant.second_profile) at c.in_err-counts.ensures.cut in
     rw (p.1, p.2) (chained _ shelf (joined sinks step) _
     (close-failed _ _ _ _ _ shelf sinks step running c.in_err-counts.field-0.0 got.0 got.1 got.2 cut.cause cut.grew.first cut.grew.second))
@@ -201,8 +189,10 @@ returns-clause-chained g c =
     let got = next-end c.in_ok-input.field-0 c.next_input.new.self running.2 c.in_ok-input.ensures.input c.cycles.invariant.slot events
     (none-of c.in_ok-input.field-0 c.in_default.not-Some) in
     let shelf = shelf_run g.S.Slots.sees g.S.Slots.stays c.args.shelf.now c.next_input.new.shelf in
-    let sinks = sinks-before g (goal.at.returns-clause-chained g c).After-next_input in
-    let step = close-sinks g (goal.at.returns-clause-chained g c).After-close_chain in
+    let sinks = sink_runs g.K.Sink.took g.K.Sink.faults c.args.first_sink.now c.cycles.first_sink
+    g.L.Sink.took g.L.Sink.faults c.args.second_sink.now c.cycles.second_sink in
+    let step = sink_runs g.K.Sink.took g.K.Sink.faults c.cycles.first_sink c.close_chain.new.first_sink
+    g.L.Sink.took g.L.Sink.faults c.cycles.second_sink c.close_chain.new.second_sink in
     let counted = rw (c.cycles.invariant.first_profile, c.cycles.invariant.second_profile) at
     (c.in_ok-counts.ensures.counted running.1 running.2.stands) in
     let grew = rw (c.cycles.invariant.first_profile, c.cycles.invariant.second_profile) at c.in_ok-counts.ensures.grew in

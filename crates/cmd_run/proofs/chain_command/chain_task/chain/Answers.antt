@@ -29,12 +29,13 @@ returns-clause-meets g c =
     let first = g.S.Slots.sees c.args.shelf.now in
     let mid = g.S.Slots.sees c.read_plan.new.shelf in
     let plan = c.in-Ok.ensures.planned in
-    let read = c.read_plan.ensures in
+    let holds = c.read_plan.ensures.holds in
+    let run = c.in-Ok.first.run in
     meets-as _ _ _ _ _ _ _ _
-    (is_known-rest task.options.strict first task.first.now task.second.now task.stimulus.now plan.manifest plan.is mid read.holds)
-    (by-first task.options.strict first task.first.now task.second.now task.stimulus.now plan.manifest plan.is mid read.holds
-    (unwrap_or task.options.seed 0) c.in-Ok.first.run.kind c.in-Ok.first.run.profile plan.same_kind plan.same_profile)
-    (rose-before _ _ _ read.counted) c.chain_second.ensures.meets
+    (is_known-rest task.options.strict first task.first.now task.second.now task.stimulus.now plan.manifest plan.is mid holds)
+    (by-first task.options.strict first task.first.now task.second.now task.stimulus.now plan.manifest plan.is mid holds
+    (unwrap_or task.options.seed 0) run.kind run.profile plan.same_kind plan.same_profile)
+    (rose-before _ _ _ c.read_plan.ensures.counted) c.chain_second.ensures.meets
 
 pub returns-clause-asked : goal.returns-clause-asked
 returns-clause-asked g c =

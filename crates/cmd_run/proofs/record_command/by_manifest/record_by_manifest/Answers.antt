@@ -1,11 +1,13 @@
 use Rattle.std.proofs.Common.{[], ◌∷◌, refl}
 use Rattle.det_io.proofs.Counts.{rose-before}
 use Rattle.det_io.proofs.Opening.{asks-then-prefix}
+use Rattle.cli_answers.specs.Outcome.{known_bytes}
+use Rattle.run_setup.specs.Setup.{setup_of}
 use Rattle.run_setup.proofs.Ending.{can-end}
 use Rattle.run_setup.proofs.Keeping.{keeps-behind}
 use Rattle.run_setup.proofs.Meeting.{meets-as}
 use Rattle.cmd_run.specs.record_command.Outcomes.{record_work}
-use Rattle.cmd_run.proofs.lemmas.record_command.ByManifest.{by-told, still-told, met-end, opens-manifest, asked-both}
+use Rattle.cmd_run.proofs.lemmas.record_command.ByManifest.{by-told, still-told, met-end, asked-manifest, asked-both}
 use Rattle.cmd_run.proofs.lemmas.record_command.Recorded.{ends-record}
 use Rattle.cmd_run.proofs.record_command.by_manifest.record_by_manifest.Goals as goal
 
@@ -20,9 +22,11 @@ pub returns-in-Err-clause-ends : goal.returns-in-Err-clause-ends
 returns-in-Err-clause-ends g c = rw c.from.ensures (can-end c.in-Err.end record_work refl)
 
 pub returns-in-Err-clause-judged : goal.returns-in-Err-clause-judged
-returns-in-Err-clause-judged g c =
+returns-in-Err-clause-judged g c = λ is_known.
     let task = c.args.task.now in
-    opens-manifest task.options.strict (g.S.Slots.sees c.args.shelf.now) task.manifest.now task.stimulus.now _ c.read_plan.ensures.asked
+    let first = g.S.Slots.sees c.args.shelf.now in
+    asked-manifest task.options.strict first task.manifest.now task.stimulus.now _
+    (setup_of task.options.strict (known_bytes first task.manifest.now)) c.read_plan.ensures.asked
 
 pub returns-clause-ends : goal.returns-clause-ends
 returns-clause-ends g c = ends-record _ c.record_named_stimulus.ensures.ends
@@ -30,15 +34,16 @@ returns-clause-ends g c = ends-record _ c.record_named_stimulus.ensures.ends
 pub returns-clause-meets : goal.returns-clause-meets
 returns-clause-meets g c =
     let first = g.S.Slots.sees c.args.shelf.now in
-    let task = c.args.task.now in
     let mid = g.S.Slots.sees c.read_plan.new.shelf in
+    let task = c.args.task.now in
     let plan = c.in-Ok.ensures.planned in
-    let read = c.read_plan.ensures in
+    let holds = c.read_plan.ensures.holds in
+    let run = c.in-Ok.client.run in
     meets-as _ _ _ _ _ _ _ _
-    (still-told task.options.strict first task.manifest.now task.stimulus.now plan.manifest plan.is mid read.holds)
-    (by-told task.options.strict first task.manifest.now task.stimulus.now plan.manifest plan.is mid task.options.seed
-    c.in-Ok.client.run.kind c.in-Ok.client.run.profile read.holds plan.same_kind plan.same_profile)
-    (rose-before _ _ _ read.counted) c.record_named_stimulus.ensures.meets
+    (still-told task.options.strict first task.manifest.now task.stimulus.now plan.manifest plan.is mid holds)
+    (by-told task.options.strict first task.manifest.now task.stimulus.now plan.manifest plan.is mid task.options.seed run.kind
+    run.profile holds plan.same_kind plan.same_profile)
+    (rose-before _ _ _ c.read_plan.ensures.counted) c.record_named_stimulus.ensures.meets
 
 pub returns-clause-asked : goal.returns-clause-asked
 returns-clause-asked g c =

@@ -1,28 +1,17 @@
 use Rattle.std.proofs.Common.{◌≡◌, [], ◌∷◌, ◌++◌, Option, Some, None, Ok, Err, refl, sym, ap, subst, ◌∙◌, arith, length}
 use Rattle.det_values.specs.Values.{ProfileValue}
-use Rattle.det_values.specs.declared.frames.Frame.{Frame}
 use Rattle.record_view.specs.declared.view.FrameView.{FrameView}
 use Rattle.record_reader.proofs.Views.{shelf-then}
-use Rattle.record_reader.specs.Frames.{RoomFell, Holds, room, slot_of}
+use Rattle.record_reader.specs.Frames.{RoomFell, room}
 use Rattle.std.proofs.lemmas.Result.{err_from_is_err_and}
 use Rattle.copies.specs.FirstDifference.{frame_difference}
 use Rattle.rerun.specs.checker.RerunFrames.{IsPlaced, rerun_frame}
 use Rattle.rerun.proofs.lemmas.checker.Departing.{inputs_of}
 use Rattle.rerun.proofs.Reading.{none-of}
-use Rattle.rerun.proofs.lemmas.checker.Running.{Next, items_with, comparing-new, next-read, next-frame, next-none, held-frame}
-use Rattle.rerun.proofs.lemmas.checker.Running.{placed, front-few, inputs-few, can-come, comparing-next}
+use Rattle.rerun.proofs.lemmas.checker.Running.{items_with, comparing-new, next-read, next-frame, next-none, held-frame, placed, front-few}
+use Rattle.rerun.proofs.lemmas.checker.Running.{inputs-few, can-come, comparing-next}
 use Rattle.rerun.proofs.lemmas.checker.Ending.{reading-stopped, all-agree, one-differs, unchecked}
-use Rattle.rerun.proofs.checker.check.check_run.Given.{Over}
-use Rattle.rerun.proofs.checker.check.check_run.Goals.{After-bytes-bytes}
 use Rattle.rerun.proofs.checker.check.check_run.Goals as goal
-
--- the frame that was read, after those that agree
-read-frame : (g : Over) (c : After-bytes-bytes g) → (frame : Frame) × Holds c.next.new.self c.in-Some.view frame
-    × Next g.J.Job.meaning c.args.recording.now.profile (g.S.Slots.sees c.args.shelf.now) (g.S.Slots.sees c.next.new.shelf)
-    (slot_of c.args.frames.now) c.args.frames.now c.next.new.self c.reading.invariant.comparing.1 (Ok (Some frame))
-read-frame g c =
-    next-frame c.reading.invariant.comparing.2.so_far c.next.new.self c.in_ok-view.field-0 c.in-Some.view c.in-Some.is
-    c.in_ok-view.ensures.held c.in_ok-view.ensures.frame c.reading.invariant.slot
 
 pub reading-init : goal.reading-init
 reading-init g c =
@@ -61,7 +50,8 @@ bytes-bytes-requires g c = held-frame c.next.new.self c.in_ok-view.field-0 c.in-
 pub take-requires-clause-comes : goal.take-requires-clause-comes
 take-requires-clause-comes g c =
     let so_far = c.reading.invariant.comparing.2.so_far in
-    let n = read-frame g (goal.at.take-requires-clause-comes g c).After-bytes-bytes in
+    let n = next-frame so_far c.next.new.self c.in_ok-view.field-0 c.in-Some.view c.in-Some.is c.in_ok-view.ensures.held
+    c.in_ok-view.ensures.frame c.reading.invariant.slot in
     let gave = c.requires.opened.gave in
     let its = ap (λ (p : ProfileValue). length p.events) c.reading.invariant.profile in
     (n.0, c.bytes-bytes.ensures n.0 n.1, can-come n.2 gave.0 gave.1 c.reading.recording so_far.behind its)
@@ -75,18 +65,23 @@ take-requires-clause-placed g c =
 
 pub take-requires-clause-few : goal.take-requires-clause-few
 take-requires-clause-few g c =
-    let comparing = c.reading.invariant.comparing.2 in
-    omega (arith, front-few comparing.so_far c.requires.opened.gave.0 c.requires.opened.gave.1, comparing.compared)
+    let gave = c.requires.opened.gave in
+    let few = front-few c.reading.invariant.comparing.2.so_far gave.0 gave.1 in
+    let compared = c.reading.invariant.comparing.2.compared in
+    omega (arith, few, compared)
 
 pub take-requires-clause-few_cycles : goal.take-requires-clause-few_cycles
 take-requires-clause-few_cycles g c =
-    let comparing = c.reading.invariant.comparing.2 in
-    omega (arith, inputs-few comparing.so_far c.requires.opened.gave.0 c.requires.opened.gave.1, comparing.cycles)
+    let gave = c.requires.opened.gave in
+    let few = inputs-few c.reading.invariant.comparing.2.so_far gave.0 gave.1 in
+    let cycles = c.reading.invariant.comparing.2.cycles in
+    omega (arith, few, cycles)
 
 pub returns-in_err-at-clause-checked : goal.returns-in_err-at-clause-checked
 returns-in_err-at-clause-checked g c read stands =
     let comparing = c.reading.invariant.comparing.2 in
-    let n = read-frame g (goal.at.returns-in_err-at-clause-checked g c).After-bytes-bytes in
+    let n = next-frame comparing.so_far c.next.new.self c.in_ok-view.field-0 c.in-Some.view c.in-Some.is c.in_ok-view.ensures.held
+    c.in_ok-view.ensures.frame c.reading.invariant.slot in
     let p = err_from_is_err_and c.from_residual-in_err-at.result c.from_residual-in_err-at.ensures.1 in
     rw (p.1, p.2) (unchecked _ _ _ _ _ comparing c.next.new.self read stands n.0 n.2)
 
@@ -94,7 +89,8 @@ pub returns-in-Some-2-clause-checked : goal.returns-in-Some-2-clause-checked
 returns-in-Some-2-clause-checked g c read stands =
     let inv = c.reading.invariant in
     let comparing = inv.comparing.2 in
-    let n = read-frame g (goal.at.returns-in-Some-2-clause-checked g c).After-bytes-bytes in
+    let n = next-frame comparing.so_far c.next.new.self c.in_ok-view.field-0 c.in-Some.view c.in-Some.is c.in_ok-view.ensures.held
+    c.in_ok-view.ensures.frame inv.slot in
     let spells = c.bytes-bytes.ensures n.0 n.1 in
     let given = inputs_of inv.comparing.1 in
     let differs = subst (λ (p : ProfileValue). frame_difference c.reading.checker.compared n.0
@@ -118,7 +114,8 @@ pub reading-preserved : goal.reading-preserved
 reading-preserved g c =
     let inv = c.reading.invariant in
     let comparing = inv.comparing.2 in
-    let n = read-frame g (goal.at.reading-preserved g c).After-bytes-bytes in
+    let n = next-frame comparing.so_far c.next.new.self c.in_ok-view.field-0 c.in-Some.view c.in-Some.is c.in_ok-view.ensures.held
+    c.in_ok-view.ensures.frame inv.slot in
     let ok = c.in_ok-at.ensures in
     let spells = c.bytes-bytes.ensures n.0 n.1 in
     let given = inputs_of inv.comparing.1 in

@@ -6,16 +6,16 @@ use Rattle.det_values.specs.Values.{ProfileValue, SampleValue}
 use Rattle.det_values.specs.declared.frames.CycleInput.{CycleInput}
 use Rattle.det_values.specs.declared.frames.Frame.TheVariants.{Run, Terminate}
 use Rattle.det_io.specs.Sink.{Grew}
-use Rattle.det_io.specs.Traffic.{shelf_run, sink_run}
+use Rattle.det_io.specs.Traffic.{ShelfTraffic, shelf_run, sink_run}
 use Rattle.det_io.specs.declared.failure.Stopped.{Stopped}
 use Rattle.cycle_engine.specs.Frames.{runs}
 use Rattle.record_grammar.specs.declared.record_fault.RecordFault.{RecordFault}
 use Rattle.record_grammar.specs.Spelling.{spelled_frame}
-use Rattle.record_reader.proofs.Views.{shelf-then}
+use Rattle.record_reader.proofs.Views.{shelf-then, same-failure}
 use Rattle.recorder.specs.declared.run_writer.counts.Counts.{Counts}
 use Rattle.recorder.specs.run_writer.Record.{Counted, record_with}
 use Rattle.recorder.specs.run_writer.Recording.{Cuts, Ran}
-use Rattle.rerun.proofs.Reading.{none-of, stopped-then}
+use Rattle.rerun.proofs.Reading.{none-of}
 use Rattle.rerun.proofs.lemmas.replayer.Running.{next_run, running-opened, next-read, running-next, few-cycles, no-write, no-read}
 use Rattle.rerun.proofs.lemmas.replayer.Ending.{open-failed, reading-stopped, cycle-failed, close-failed, closed}
 use Rattle.rerun.proofs.lemmas.replayer.KnownRecord.{replayed}
@@ -67,12 +67,6 @@ returns-in_err-input-clause-sink_traffic g c =
     c.cycles.invariant.slot in
     let sink = sink_run g.K.Sink.took g.K.Sink.faults c.args.sink.now c.cycles.sink in
     rw (p.1, p.2) (no-write why gave.0 gave.1 n sink c.cycles.invariant.sink_traffic)
-
-pub returns-in_err-input-clause-shelf_traffic : goal.returns-in_err-input-clause-shelf_traffic
-returns-in_err-input-clause-shelf_traffic g c =
-    let p = err_from_is_err_and c.from_residual-in_err-input.result c.from_residual-in_err-input.ensures.1 in
-    rw (p.1, p.2) (stopped-then (Option CycleInput) Counts c.in_err-input.field-0.0 (g.met.S.Slots.stays_on _ _ _)
-    c.cycles.invariant.shelf_traffic c.in_err-input.ensures.traffic)
 
 pub cycle-requires-clause-few : goal.cycle-requires-clause-few
 cycle-requires-clause-few g c =
@@ -158,13 +152,6 @@ returns-in_err-counts-clause-replayed g c read stands =
     rw (p.1, p.2) (replayed _ _ n.all
     (close-failed _ _ _ _ _ running.2 c.next_input.new.frames read stands failure n cut))
 
-pub returns-in_err-counts-clause-shelf_traffic : goal.returns-in_err-counts-clause-shelf_traffic
-returns-in_err-counts-clause-shelf_traffic g c =
-    let p = err_from_is_err_and c.from_residual-in_err-counts.result c.from_residual-in_err-counts.ensures.1 in
-    let shelf = shelf_run g.S.Slots.sees g.S.Slots.stays c.args.shelf.now c.next_input.new.shelf in
-    rw (p.1, p.2) (no-read c.in_err-counts.field-0.0 _ _ _ shelf c.in_err-counts.ensures.cut
-    (shelf-then (g.met.S.Slots.stays_on _ _ _) c.cycles.invariant.shelf_traffic c.in_ok-input.ensures.traffic))
-
 pub returns-clause-replayed : goal.returns-clause-replayed
 returns-clause-replayed g c read stands =
     let m = g.J.Job.meaning in
@@ -178,6 +165,20 @@ returns-clause-replayed g c read stands =
     (spelled_frame p.format Terminate)) c.cycles.invariant.profile c.in_ok-counts.ensures.took in
     replayed _ _ n.all
     (closed _ _ _ _ _ running.2 c.next_input.new.frames read stands counts n counted grew)
+
+pub returns-in_err-input-clause-shelf_traffic : goal.returns-in_err-input-clause-shelf_traffic
+returns-in_err-input-clause-shelf_traffic g c =
+    let p = err_from_is_err_and c.from_residual-in_err-input.result c.from_residual-in_err-input.ensures.1 in
+    let shelf = shelf_run g.S.Slots.sees g.S.Slots.stays c.args.shelf.now c.next_input.new.shelf in
+    rw (p.1, p.2) (subst (ShelfTraffic shelf) (same-failure (Option CycleInput) Counts c.in_err-input.field-0.0)
+    (shelf-then (g.met.S.Slots.stays_on _ _ _) c.cycles.invariant.shelf_traffic c.in_err-input.ensures.traffic))
+
+pub returns-in_err-counts-clause-shelf_traffic : goal.returns-in_err-counts-clause-shelf_traffic
+returns-in_err-counts-clause-shelf_traffic g c =
+    let p = err_from_is_err_and c.from_residual-in_err-counts.result c.from_residual-in_err-counts.ensures.1 in
+    let shelf = shelf_run g.S.Slots.sees g.S.Slots.stays c.args.shelf.now c.next_input.new.shelf in
+    rw (p.1, p.2) (no-read c.in_err-counts.field-0.0 _ _ _ shelf c.in_err-counts.ensures.cut
+    (shelf-then (g.met.S.Slots.stays_on _ _ _) c.cycles.invariant.shelf_traffic c.in_ok-input.ensures.traffic))
 
 pub returns-clause-shelf_traffic : goal.returns-clause-shelf_traffic
 returns-clause-shelf_traffic g c =

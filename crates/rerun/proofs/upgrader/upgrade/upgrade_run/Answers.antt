@@ -2,39 +2,26 @@ use Rattle.std.proofs.Common.{◌≡◌, ◌≤◌, [], ◌∷◌, ◌++◌, len
 use Rattle.std.specs.Prelude.{Option, Some, None, Ok, Err}
 use Rattle.std.proofs.lemmas.Result.{err_from_is_err_and}
 use Rattle.det_values.specs.Values.{ProfileValue}
-use Rattle.det_values.specs.declared.frames.Frame.{Frame}
 use Rattle.det_values.specs.declared.frames.Frame.TheVariants.{Terminate}
 use Rattle.det_io.specs.Sink.{Grew}
-use Rattle.det_io.specs.Traffic.{shelf_run, sink_run}
+use Rattle.det_io.specs.Traffic.{ShelfTraffic, shelf_run, sink_run}
 use Rattle.record_view.specs.declared.view.FrameView.{FrameView}
 use Rattle.record_grammar.specs.Spelling.{spelled, spelled_frame}
-use Rattle.record_reader.proofs.Views.{shelf-then}
-use Rattle.record_reader.specs.Frames.{RoomFell, Holds, room, slot_of}
+use Rattle.record_reader.proofs.Views.{shelf-then, same-failure}
+use Rattle.record_reader.specs.Frames.{RoomFell, room}
 use Rattle.recorder.specs.run_writer.Recording.{Cuts}
 use Rattle.rerun.specs.checker.RerunFrames.{IsPlaced, IsEngineAfter}
 use Rattle.copies.specs.declared.check_verdict.CheckVerdict.{CheckVerdict}
 use Rattle.rerun.specs.upgrader.UpgradeStart.{in_format_of, header_of}
 use Rattle.rerun.specs.upgrader.Frames.{GoesOn}
 use Rattle.rerun.proofs.lemmas.checker.Departing.{inputs_of}
-use Rattle.rerun.proofs.Reading.{none-of, stopped-then}
-use Rattle.rerun.proofs.lemmas.checker.Running.{Next, held-frame, next-read, next-frame, next-none, placed, front-few, can-come}
-use Rattle.rerun.proofs.lemmas.checker.Running.{compared-none}
+use Rattle.rerun.proofs.Reading.{none-of}
+use Rattle.rerun.proofs.lemmas.checker.Running.{held-frame, next-read, next-frame, next-none, placed, front-few, can-come, compared-none}
 use Rattle.rerun.proofs.lemmas.replayer.Running.{no-read as no-read-cut}
 use Rattle.rerun.proofs.lemmas.upgrader.Order.{fewer_inputs}
 use Rattle.rerun.proofs.lemmas.upgrader.Going.{two-is, written-behind, takes-as, running-next, no-write, no-read, compared-next, cycles-next}
 use Rattle.rerun.proofs.lemmas.upgrader.Ending.{as-told, header-failed, departs, take-failed, close-failed, closed, reading-stopped}
-use Rattle.rerun.proofs.upgrader.upgrade.upgrade_run.Given.{Over}
-use Rattle.rerun.proofs.upgrader.upgrade.upgrade_run.Goals.{After-bytes-bytes}
 use Rattle.rerun.proofs.upgrader.upgrade.upgrade_run.Goals as goal
-
--- the frame that was read, after those that agree
-read-frame : (g : Over) (c : After-bytes-bytes g) → (frame : Frame) × Holds c.next.new.self c.in-Some.view frame
-    × Next g.J.Job.meaning (header_of c.args.original.now c.args.recording.now.profile) (g.S.Slots.sees c.args.shelf.now)
-    (g.S.Slots.sees c.next.new.shelf) (slot_of c.args.original.now.frames) c.args.original.now.frames c.next.new.self
-    c.reading.invariant.running.1 (Ok (Some frame))
-read-frame g c =
-    next-frame c.reading.invariant.running.2.compared c.next.new.self c.in_ok-view.field-0 c.in-Some.view c.in-Some.is
-    c.in_ok-view.ensures.held c.in_ok-view.ensures.frame c.reading.invariant.slot
 
 pub returns-in_err-write_upgraded_header-clause-upgraded : goal.returns-in_err-write_upgraded_header-clause-upgraded
 returns-in_err-write_upgraded_header-clause-upgraded g c read stands =
@@ -94,12 +81,6 @@ returns-in_err-view-clause-sink_traffic g c =
     let sink = sink_run g.K.Sink.took g.K.Sink.faults c.args.sink.now c.reading.sink in
     rw (p.1, p.2) (no-write m profile why gave.0 gave.1 n sink c.reading.invariant.sink_traffic)
 
-pub returns-in_err-view-clause-shelf_traffic : goal.returns-in_err-view-clause-shelf_traffic
-returns-in_err-view-clause-shelf_traffic g c =
-    let p = err_from_is_err_and c.from_residual-in_err-view.result c.from_residual-in_err-view.ensures.1 in
-    rw (p.1, p.2) (stopped-then (Option FrameView) CheckVerdict c.in_err-view.field-0.0 (g.met.S.Slots.stays_on _ _ _)
-    c.reading.invariant.shelf_traffic c.in_err-view.ensures.traffic)
-
 pub returns-in_err-close-clause-upgraded : goal.returns-in_err-close-clause-upgraded
 returns-in_err-close-clause-upgraded g c read stands =
     let p = err_from_is_err_and c.from_residual-in_err-close.result c.from_residual-in_err-close.ensures.1 in
@@ -112,13 +93,6 @@ returns-in_err-close-clause-upgraded g c read stands =
     rw (p.1, p.2) (as-told _ _ n.all
     (close-failed _ _ _ _ _ running.2 c.next.new.self read stands n failure cut))
 
-pub returns-in_err-close-clause-shelf_traffic : goal.returns-in_err-close-clause-shelf_traffic
-returns-in_err-close-clause-shelf_traffic g c =
-    let p = err_from_is_err_and c.from_residual-in_err-close.result c.from_residual-in_err-close.ensures.1 in
-    let shelf = shelf_run g.S.Slots.sees g.S.Slots.stays c.args.shelf.now c.next.new.shelf in
-    rw (p.1, p.2) (no-read-cut c.in_err-close.field-0.0 _ _ _ shelf c.in_err-close.ensures.cut
-    (shelf-then (g.met.S.Slots.stays_on _ _ _) c.reading.invariant.shelf_traffic c.in_ok-view.ensures.traffic))
-
 pub returns-in_default-clause-upgraded : goal.returns-in_default-clause-upgraded
 returns-in_default-clause-upgraded g c read stands =
     let running = c.reading.invariant.running in
@@ -130,10 +104,6 @@ returns-in_default-clause-upgraded g c read stands =
     (closed _ _ _ _ _ running.2 c.next.new.self read stands n
     c.reading.upgrade.cycles running.4 grew)
 
-pub returns-in_default-clause-shelf_traffic : goal.returns-in_default-clause-shelf_traffic
-returns-in_default-clause-shelf_traffic g c =
-    shelf-then (g.met.S.Slots.stays_on _ _ _) c.reading.invariant.shelf_traffic c.in_ok-view.ensures.traffic
-
 pub bytes-bytes-requires : goal.bytes-bytes-requires
 bytes-bytes-requires g c = held-frame c.next.new.self c.in_ok-view.field-0 c.in-Some.view c.in-Some.is c.in_ok-view.ensures.held
 
@@ -144,7 +114,8 @@ take-requires-clause-behind g c =
 pub take-requires-clause-comes : goal.take-requires-clause-comes
 take-requires-clause-comes g c =
     let compared = c.reading.invariant.running.2.compared in
-    let n = read-frame g (goal.at.take-requires-clause-comes g c).After-bytes-bytes in
+    let n = next-frame compared c.next.new.self c.in_ok-view.field-0 c.in-Some.view c.in-Some.is c.in_ok-view.ensures.held
+    c.in_ok-view.ensures.frame c.reading.invariant.slot in
     let gave = c.requires.opened.gave in
     let its = ap (λ (p : ProfileValue). length p.events) c.reading.invariant.profile in
     (n.0, c.bytes-bytes.ensures n.0 n.1, can-come n.2 gave.0 gave.1 c.reading.recording compared.behind its)
@@ -181,7 +152,8 @@ returns-in_err-at-clause-upgraded g c read stands =
     let m = g.J.Job.meaning in
     let profile = header_of c.args.original.now c.args.recording.now.profile in
     let running = c.reading.invariant.running in
-    let n = read-frame g (goal.at.returns-in_err-at-clause-upgraded g c).After-bytes-bytes in
+    let n = next-frame running.2.compared c.next.new.self c.in_ok-view.field-0 c.in-Some.view c.in-Some.is c.in_ok-view.ensures.held
+    c.in_ok-view.ensures.frame c.reading.invariant.slot in
     let step = sink_run g.K.Sink.took g.K.Sink.faults c.reading.sink c.take.new.sink in
     let failure = c.in_err-at.field-0.0 in
     let goes_on = GoesOn m (inputs_of running.1) n.0 c.take.new.recording c.reading.upgrade c.take.new.self in
@@ -211,7 +183,8 @@ returns-in-Some-2-clause-upgraded g c read stands =
     let m = g.J.Job.meaning in
     let profile = header_of c.args.original.now c.args.recording.now.profile in
     let running = c.reading.invariant.running in
-    let n = read-frame g (goal.at.returns-in-Some-2-clause-upgraded g c).After-bytes-bytes in
+    let n = next-frame running.2.compared c.next.new.self c.in_ok-view.field-0 c.in-Some.view c.in-Some.is c.in_ok-view.ensures.held
+    c.in_ok-view.ensures.frame c.reading.invariant.slot in
     let step = sink_run g.K.Sink.took g.K.Sink.faults c.reading.sink c.take.new.sink in
     let goes_on = GoesOn m (inputs_of running.1) n.0 c.take.new.recording c.reading.upgrade c.take.new.self in
     let at = c.in-Some-2.at in
@@ -224,10 +197,6 @@ returns-in-Some-2-clause-upgraded g c read stands =
     (departs _ _ _ _ _ running.2 c.next.new.self read stands n.0 n.2
     at takes.0 takes.1)
 
-pub returns-in-Some-2-clause-shelf_traffic : goal.returns-in-Some-2-clause-shelf_traffic
-returns-in-Some-2-clause-shelf_traffic g c =
-    shelf-then (g.met.S.Slots.stays_on _ _ _) c.reading.invariant.shelf_traffic c.in_ok-view.ensures.traffic
-
 pub reading-smaller : goal.reading-smaller
 reading-smaller g c =
     let gave = c.requires.opened.gave in
@@ -239,7 +208,8 @@ reading-preserved g c =
     let m = g.J.Job.meaning in
     let profile = header_of c.args.original.now c.args.recording.now.profile in
     let running = c.reading.invariant.running in
-    let n = read-frame g (goal.at.reading-preserved g c).After-bytes-bytes in
+    let n = next-frame running.2.compared c.next.new.self c.in_ok-view.field-0 c.in-Some.view c.in-Some.is c.in_ok-view.ensures.held
+    c.in_ok-view.ensures.frame c.reading.invariant.slot in
     let step = sink_run g.K.Sink.took g.K.Sink.faults c.reading.sink c.take.new.sink in
     let frame = n.0 in
     let goes_on = GoesOn m (inputs_of running.1) frame c.take.new.recording c.reading.upgrade c.take.new.self in
@@ -267,3 +237,25 @@ reading-preserved g c =
         counted = omega (arith, c.reading.invariant.sink_traffic.counted, c.in_ok-at.ensures.traffic.counted);
       };
     }
+
+pub returns-in_err-view-clause-shelf_traffic : goal.returns-in_err-view-clause-shelf_traffic
+returns-in_err-view-clause-shelf_traffic g c =
+    let p = err_from_is_err_and c.from_residual-in_err-view.result c.from_residual-in_err-view.ensures.1 in
+    let shelf = shelf_run g.S.Slots.sees g.S.Slots.stays c.args.shelf.now c.next.new.shelf in
+    rw (p.1, p.2) (subst (ShelfTraffic shelf) (same-failure (Option FrameView) CheckVerdict c.in_err-view.field-0.0)
+    (shelf-then (g.met.S.Slots.stays_on _ _ _) c.reading.invariant.shelf_traffic c.in_err-view.ensures.traffic))
+
+pub returns-in_err-close-clause-shelf_traffic : goal.returns-in_err-close-clause-shelf_traffic
+returns-in_err-close-clause-shelf_traffic g c =
+    let p = err_from_is_err_and c.from_residual-in_err-close.result c.from_residual-in_err-close.ensures.1 in
+    let shelf = shelf_run g.S.Slots.sees g.S.Slots.stays c.args.shelf.now c.next.new.shelf in
+    rw (p.1, p.2) (no-read-cut c.in_err-close.field-0.0 _ _ _ shelf c.in_err-close.ensures.cut
+    (shelf-then (g.met.S.Slots.stays_on _ _ _) c.reading.invariant.shelf_traffic c.in_ok-view.ensures.traffic))
+
+pub returns-in_default-clause-shelf_traffic : goal.returns-in_default-clause-shelf_traffic
+returns-in_default-clause-shelf_traffic g c =
+    shelf-then (g.met.S.Slots.stays_on _ _ _) c.reading.invariant.shelf_traffic c.in_ok-view.ensures.traffic
+
+pub returns-in-Some-2-clause-shelf_traffic : goal.returns-in-Some-2-clause-shelf_traffic
+returns-in-Some-2-clause-shelf_traffic g c =
+    shelf-then (g.met.S.Slots.stays_on _ _ _) c.reading.invariant.shelf_traffic c.in_ok-view.ensures.traffic
