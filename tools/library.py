@@ -9,7 +9,7 @@
 Prints where it lies: out/lib/libdeterministic_client.a, or out/lib/TARGET/libdeterministic_client.a
 for a TARGET; `made` beside it says how it was made. One for another target than this machine's is
 always proved, and so is one with a kit that doesn't serve for compiling. Over the libraries that
-CRATES = ("det_client_c", "det_record_c", "det_reading_c", "det_stimulus_c", "det_manifest_c", "det_verdict_c")
+`make prove` left only its own crates are proved, which takes minutes; else all below them too.
 It ends with 0, with 2 for other words, or with 70 and a line that says why it isn't built.
 """
 

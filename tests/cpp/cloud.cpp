@@ -1,5 +1,5 @@
-// The job `cloud` (docs/FORMATS.md) as an application with a loop of its own. Its record is to be the
-// one that `det record` writes, byte for byte.
+// The job `cloud` (docs/FORMATS.md) as an application with a loop of its own. Its record is to be
+// the one that `det record` writes, byte for byte.
 //
 //     cloud STIMULUS SEED WORKERS COUNT SPREAD RESEED FAR
 #include <algorithm>

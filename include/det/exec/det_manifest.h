@@ -1,4 +1,5 @@
-/* A manifest, read from its text: the exports of the static library det_manifest_c, which are proved.
+/* A manifest, read from its text: the exports of the static library det_manifest_c, which are
+ * proved.
  *
  * docs/FORMATS.md, "Manifest", has the keys, their ranges, and the order in which faults are found.
  *
@@ -18,8 +19,8 @@ extern "C" {
 enum { DET_MANIFEST_READ = 0, DET_MANIFEST_FAULT = 1, DET_MANIFEST_NO_MEMORY = 2 };
 
 /* Reads a manifest from its whole text, up to the name of its job and its parameters, which are the
- * application's to check. With READ `manifest` is what the text says. With FAULT `fault` is its first
- * fault; if `strict`, an unknown key is one. Anything else is left as it was. */
+ * application's to check. With READ `manifest` is what the text says. With FAULT `fault` is its
+ * first fault; if `strict`, an unknown key is one. Anything else is left as it was. */
 uint8_t det_manifest_read(DetManifest *manifest, DetManifestFault *fault, const uint8_t *bytes,
                           size_t count, bool strict);
 

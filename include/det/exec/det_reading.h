@@ -1,8 +1,8 @@
 /* Reading a record: the exports of the static library det_reading_c, which are proved.
  *
- * Every call is total: it may get any bytes and any struct, always returns, and reads no byte beyond
- * the count that it gets. No call takes memory or keeps a pointer. Each pointer is to one live
- * object, or to as many as a count says, also to none; no two pointers of a call overlap. While a
+ * Every call is total: it may get any bytes and any struct, always returns, and reads no byte
+ * beyond the count that it gets. No call takes memory or keeps a pointer. Each pointer is to one
+ * live object, or to as many as a count says, also to none; no two pointers overlap. While a
  * call runs, no other thread uses what it may change, or changes what it reads. A frame is returned
  * as offsets into the caller's bytes, which say nothing once these change. docs/FORMATS.md,
  * "Record", has the bytes. */
@@ -37,9 +37,9 @@ typedef struct DetReading {
   DetScan scan;
 } DetReading;
 
-/* What a call returns that reads. If it isn't DET_READING_WHOLE, the header, its length and the frame
- * are as they were, and the reading too, but for `scan` with DET_READING_MORE. `fault` changes only
- * with DET_READING_FAULT. */
+/* What a call returns that reads. If it isn't DET_READING_WHOLE, the header, its length and the
+ * frame are as they were, and the reading too, but for `scan` with DET_READING_MORE. `fault` changes
+ * only with DET_READING_FAULT. */
 enum {
   DET_READING_WHOLE = 0,
   DET_READING_MORE = 1,     /* the bytes end before the header or the frame does */
@@ -81,8 +81,8 @@ enum { DET_FRAMES_EQUAL = 0, DET_FRAMES_DIFFER = 1, DET_FRAMES_NONE = 2 };
 
 /* Compares what may be two frames `number`, counted from 0, of two records in this format with so
  * many events. DET_FRAMES_EQUAL: they are the same frame. DET_FRAMES_DIFFER: both are whole, and
- * `place` is their first difference. DET_FRAMES_NONE: one of them isn't exactly one whole frame that
- * may come there. `place` changes only with DET_FRAMES_DIFFER. Any format but 1 is 2. */
+ * `place` is their first difference. DET_FRAMES_NONE: one of them isn't exactly one whole frame
+ * that may come there. `place` changes only with DET_FRAMES_DIFFER. Any format but 1 is 2. */
 uint8_t det_frame_difference(uint8_t format, uint16_t events, uint32_t number, const uint8_t *left,
                              size_t left_count, const uint8_t *right, size_t right_count,
                              DetPlace *place);

@@ -1,6 +1,7 @@
-/* A stimulus, read line by line: the exports of the static library det_stimulus_c, which are proved.
+/* A stimulus, read line by line: the exports of the static library det_stimulus_c, which are
+ * proved.
  *
- * The caller reads the text in pieces of any size. He shows each step the bytes that no earlier step
+ * The caller reads the text in pieces of any size. Each step gets the bytes that no earlier step
  * took: at least 129 of them, or all that are left. docs/FORMATS.md, "Stimulus", has the lines.
  *
  * Every call may be given any bytes and any struct. It takes no memory and keeps no pointer. Each

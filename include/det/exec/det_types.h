@@ -1,5 +1,5 @@
-/* The structs that C and the proved libraries pass to each other. Each is the struct of that name in
- * the crate c_types. */
+/* The structs that C and the proved libraries pass to each other. Each is the struct of that name
+ * in the crate c_types. */
 #ifndef DET_EXEC_DET_TYPES_H
 #define DET_EXEC_DET_TYPES_H
 
@@ -28,8 +28,8 @@ typedef struct DetEvent {
   uint8_t len, policy;
 } DetEvent;
 
-/* A header that was read. Only the first `param_count` parameters and the first `event_count` events
- * count. */
+/* A header that was read. Only the first `param_count` parameters and the first `event_count`
+ * events count. */
 typedef struct DetHeader {
   DetProfile profile;
   int64_t params[16];
@@ -126,8 +126,8 @@ typedef struct DetNeeds {
   bool there;
 } DetNeeds;
 
-/* A manifest. Only the first `.._count` items and the first `.._len` bytes count. The job is the text
- * of the key `job`. `job_len` is 65 if that text has more than 64 bytes, as no name of a job has.
+/* A manifest. Only the first `.._count` items and the first `.._len` bytes count. The job is the
+ * text of the key `job`. `job_len` is 65 if that text has more than 64 bytes, as no job's name has.
  * `platform_len` is 0 if the manifest names no platform. */
 typedef struct DetManifest {
   uint64_t cycle_time; /* in nanoseconds */

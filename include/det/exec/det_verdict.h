@@ -1,12 +1,12 @@
 /* The texts of answers, verdicts, needs and reports for C: the exports of the static library
  * det_verdict_c, which are proved.
  *
- * Each call makes `text` the text that it names. It may be given any struct: one whose numbers stand
- * for nothing, as an unknown reason, has the empty text. Each line ends with LF. docs/FORMATS.md,
- * "Texts" and "Lines on standard error", has the lines.
+ * Each call makes `text` the text that it names. It may be given any struct: one whose numbers
+ * stand for nothing, as an unknown reason, has the empty text. Each line ends with LF.
+ * docs/FORMATS.md, "Texts" and "Lines on standard error", has the lines.
  *
- * No call takes memory or keeps a pointer. Each pointer is to one live object, and no two pointers of
- * a call overlap. While a call runs, no other thread uses what it may change, or changes what it
+ * No call takes memory or keeps a pointer. Each pointer is to one live object, and no two pointers
+ * of a call overlap. While a call runs, no other thread uses what it may change, or changes what it
  * reads. */
 #ifndef DET_EXEC_DET_VERDICT_H
 #define DET_EXEC_DET_VERDICT_H

@@ -66,8 +66,8 @@ class RecordedSource final : public LiveSource {
 };
 
 /// A sink of a Recorder that compares each part with that of a record. At the first difference, or
-/// at a fault of the record, it refuses the part, so the recorder returns kWriteFailed. The recorder
-/// is one of the record's format.
+/// at a fault of the record, it refuses the part, so the recorder returns kWriteFailed. The
+/// recorder is one of the record's format.
 class CheckingSink final : public RecordSink {
  public:
   /// Opens the record. Takes memory, as RecordedSource does.
