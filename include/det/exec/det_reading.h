@@ -38,7 +38,7 @@ typedef struct DetReading {
 } DetReading;
 
 /* What a call returns that reads. If it isn't DET_READING_WHOLE, the header, its length and the
- * frame are as they were, and the reading too, but for `scan` with DET_READING_MORE. `fault` changes
+ * frame are as they were. So is the reading, but for `scan` with DET_READING_MORE. `fault` changes
  * only with DET_READING_FAULT. */
 enum {
   DET_READING_WHOLE = 0,
