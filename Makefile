@@ -1,6 +1,5 @@
 # Builds, tests, proves and installs. `make` needs the Rattle kit (rt on the path) and Python 3.9 or
 # later, `make install` only Python, `make test` also pytest. README.md says more.
-VERSION = 0.1.0
 PREFIX = /usr/local
 DESTDIR =
 # Folders below PREFIX, as lib/x86_64-linux-gnu.
@@ -32,6 +31,10 @@ $(PROGRAMS):
 library:
 	bin/build_library
 
+# The page for a browser, out/page/det_page.html. `make install` installs it if it is there.
+page:
+	$(PYTHON) -B tools/build_page.py
+
 # The tests after the gate, over the programs that are there, proved or compiled.
 test: has-pytest
 	$(PYTEST)
@@ -41,12 +44,13 @@ has-pytest:
 	Debian packages python3-pytest and python3-pytest-xdist" >&2; exit 1; }
 
 # The gate: how many lines of definitions the theorem rests on, the table of crates, the manual pages,
-# all proofs, edits that must fail, tests in Rattle, and how many minutes of a processor each crate
-# took. If it passed, out/proved has the time when it began.
+# the completions, all proofs, edits that must fail, tests in Rattle, and how many minutes of a
+# processor each crate took. If it passed, out/proved has the time when it began.
 prove:
 	$(PYTHON) tools/definitions.py --check
 	$(PYTHON) tools/crate_table.py --check
 	$(PYTHON) tools/manual.py --check
+	$(PYTHON) tools/completion.py --check
 	mkdir -p out && touch out/proving
 	$(PYTHON) tools/gate_times.py rt ci
 	mv out/proving out/proved
@@ -58,13 +62,17 @@ check: has-pytest prove
 
 # Copies what `make` built, and builds nothing.
 install:
-	$(PYTHON) tools/install.py --version "$(VERSION)" $(ROOT) $(FOLDERS)
+	$(PYTHON) tools/install.py $(ROOT) $(FOLDERS)
 
 uninstall:
 	$(PYTHON) tools/install.py --uninstall $(ROOT)
 
+# Packs what `make` built into Debian packages, and builds nothing.
+deb:
+	$(PYTHON) -B tools/debian.py
+
 # Records that stand in out/ stay.
 clean:
-	rm -rf crates/*/out out/compiled out/lib out/pytest out/proving out/proved
+	rm -rf crates/*/out out/compiled out/lib out/page out/debian out/pytest out/proving out/proved
 
-.PHONY: all programs $(PROGRAMS) library test has-pytest prove check install uninstall clean
+.PHONY: all programs $(PROGRAMS) library page test has-pytest prove check install uninstall deb clean

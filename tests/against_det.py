@@ -2,23 +2,25 @@
 
     python3 tests/against_det.py --runs 50000 [--seed N]     says what differs
 
-A run gives both programs the same arguments. Status, standard output and the first line of standard
-error have to be the same. Files of a run that differs are kept.
+A run gives both programs the same arguments. Status, standard output and standard error have to be
+the same, with all hints; only the program's own name and that of its job are others. Files of a run
+that differs are kept. Beside a name of no file, `det` may have no hint.
 """
 
 from __future__ import annotations
 
 import argparse
 import random
+import re
 import shutil
 import sys
 import tempfile
 from collections import Counter
-from dataclasses import dataclass, field
+from dataclasses import dataclass, field, replace
 from pathlib import Path
 from typing import Iterator, Union
 
-from commands import run
+from commands import Outcome, run
 
 Argument = Union[str, int, Path]
 
@@ -49,9 +51,10 @@ MANIFEST_TOKENS += ["[[event]]\n", "[run_needs]\n", "params = []\n", "a.b = 1\n"
 MANIFEST_TOKENS += ["{}", "{ a = 1 }", "1_0", "9223372036854775808", "\\u0041", "1979-05-27"]
 MANIFEST_TOKENS += ['"fresh"', 'platform = ""\n', "capacity = 1025\n", "event = 3\n", "+5", "inf"]
 MANIFEST_TOKENS += ['"""a"""', "\r\n", "\ufeff"]
+NO_FILE = "nosuch"
 EXTRA: list[list[str]] = [["--seed", "7"], ["--workers", "2"], ["--strict"], ["--seed"], ["-"]]
 EXTRA += [["--workers", "0"], ["--workers", "65"], ["--seed", "18446744073709551616"], [""]]
-EXTRA += [["--seed", "00"], ["--seed", ""], ["--workers=2"], ["--force"], ["m.toml"], ["nosuch"]]
+EXTRA += [["--seed", "00"], ["--seed", ""], ["--workers=2"], ["--force"], ["m.toml"], [NO_FILE]]
 EXTRA += [["--dissent"], ["--seed", "--workers"], ["--workers", "+1"], ["\udcff"]]
 
 
@@ -156,6 +159,22 @@ def broken(choose: random.Random, data: bytes, tokens: list[bytes]) -> bytes:
     return bytes(made)
 
 
+def named_after(job: str, outcome: Outcome) -> Outcome:
+    """How `det` ended, where the names are those of a program with this only job."""
+    err = outcome.err.replace(b"bank, cloud or guard", job.encode())
+    return replace(outcome, err=err.replace(b"see det", b"see " + job.encode()))
+
+
+def is_without_hint(wanted: Outcome, given: Outcome) -> bool:
+    """Whether only the hint on a file is missing: `det` has none beside a name of no file."""
+    return wanted.err == wanted.line() + b"\n" and wanted.is_like(given)
+
+
+def kind_of(hint: bytes) -> bytes:
+    """A hint with 0 in place of each number."""
+    return re.sub(rb"\d+", b"0", hint)
+
+
 @dataclass
 class Against:
     """`det`, the applications `cloud` and `guard` in a folder, and a folder for files."""
@@ -165,14 +184,16 @@ class Against:
     work: Path
     seed: int
     seen: Counter[tuple[str, int]] = field(default_factory=Counter)
+    hints: Counter[bytes] = field(default_factory=Counter)
     apart: list[str] = field(default_factory=list)
 
     def compare(self, job: str, *arguments: Argument) -> None:
         """Gives both programs these arguments."""
-        wanted = run([self.det, *arguments], self.work)
+        wanted = named_after(job, run([self.det, *arguments], self.work))
         given = run([self.programs / job, *arguments], self.work)
         self.seen[str(arguments[0]), wanted.status] += 1
-        if not wanted.is_like(given):
+        self.hints.update(kind_of(it) for it in wanted.err.splitlines()[1:])
+        if wanted != given and not (NO_FILE in arguments and is_without_hint(wanted, given)):
             kept = self.work / f"apart{len(self.apart)}"
             kept.mkdir()
             for file in ("m.toml", "s.stim", "r.rec"):

@@ -10,7 +10,7 @@ from contextlib import contextmanager
 from pathlib import Path
 from typing import Iterator, Sequence
 
-from commands import Outcome
+from commands import Outcome, without_children
 
 # The word for the program `det` among the words of `det_lane`.
 PROGRAM = "PROGRAM"
@@ -84,12 +84,12 @@ class Real:
         return os.waitstatus_to_exitcode(how)
 
     def run(self, words: Sequence[str]) -> Outcome:
-        """How a program ends. Hints on standard error are left out."""
+        """How a program ends. Of standard error, hints and what children write are left out."""
         program, det = str(self.programs / words[0]), str(self.programs / "det")
         command = [program, *(det if word == PROGRAM else word for word in words[1:])]
         status = self.wait(os.posix_spawn(program, command, {}, file_actions=self.actions))
         given = Outcome(status, Path("out").read_bytes(), Path("err").read_bytes())
-        return Outcome(status, given.out, given.error_without_hints())
+        return Outcome(status, given.out, without_children(given).error_without_hints())
 
 
 def is_same(given: Outcome, expected: Outcome) -> bool:

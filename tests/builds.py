@@ -71,6 +71,15 @@ def build_library(is_proof: bool) -> Path:
     return Path(done.stdout.strip().split("\n")[-1])
 
 
+def build_page() -> Path:
+    """The page for a browser: one that is there, or is compiled."""
+    words = [sys.executable, "-B", str(TOP / "tools" / "build_page.py")]
+    done = subprocess.run(words, stdout=subprocess.PIPE, text=True)
+    if done.returncode:
+        raise NotBuilt(f"the page can't be built: status {done.returncode}")
+    return Path(done.stdout.strip())
+
+
 def build_plain(folder: Path) -> Path:
     """Compiles the plain program of tests/plain."""
     make(["rustc", *PLAIN_OPTIONS, "-o", folder / "plain", PLAIN_SOURCE])

@@ -3,9 +3,10 @@
 from __future__ import annotations
 
 import os
+import re
 import shutil
 import subprocess
-from dataclasses import dataclass, field
+from dataclasses import dataclass, field, replace
 from pathlib import Path
 from typing import Any, Optional, Sequence, Union
 
@@ -44,6 +45,18 @@ class Outcome:
 
     def __str__(self) -> str:
         return f"status {self.status}, {excerpt(self.err)}, {len(self.out)} bytes"
+
+
+# The beginning of a line that `det_lane` passes on from a child.
+OF_CHILD = re.compile(rb"child \d+: ")
+
+
+def without_children(outcome: Outcome) -> Outcome:
+    """How det_lane ended, without what its children wrote to standard error. They run side by side,
+    so the order of their lines isn't the same in every run."""
+    lines = outcome.err.splitlines(keepends=True)
+    own = b"".join(line for line in lines if not OF_CHILD.match(line))
+    return replace(outcome, err=own)
 
 
 def run(

@@ -8,7 +8,8 @@ A block is fenced by ```console. A line after "$ " is a command, lines after "> 
 the lines up to the next command are what it prints, on standard output and standard error together.
 All commands of a document run in one shell, which starts at the top of the repository. Prints each
 command that printed something else, and ends with 1 where there is one. The programs of bin/ build
-where needed. It needs Python's standard library and bash.
+where needed, and the library for a document that names it. It needs Python's standard library, bash,
+and for such a document g++.
 """
 
 from __future__ import annotations
@@ -21,12 +22,13 @@ import tempfile
 from dataclasses import dataclass, field
 from pathlib import Path
 
-from builds import build_programs
+from builds import build_library, build_programs
 from commands import TOP, run
 
 # The most seconds that all commands of a document may take.
 LIMIT = 600
 MARK = "--- command "
+LIBRARY = "libdeterministic_client.a"
 
 
 @dataclass
@@ -63,12 +65,14 @@ def script_of(commands: list[Command]) -> str:
     return "\n".join(parts) + "\n"
 
 
-def outputs_of(commands: list[Command], programs: Path, room: Path) -> list[list[str]]:
+def outputs_of(
+    commands: list[Command], programs: Path, room: Path, top: Path = TOP
+) -> list[list[str]]:
     """What each command prints, line by line. Temporary files go to a folder."""
     environment = dict(os.environ, PROGRAMS=str(programs), TMPDIR=str(room))
     given = run(
         ["bash"],
-        TOP,
+        top,
         environment,
         LIMIT,
         input=script_of(commands).encode(),
@@ -84,10 +88,16 @@ def outputs_of(commands: list[Command], programs: Path, room: Path) -> list[list
     return outputs
 
 
-def departures(document: Path, programs: Path, room: Path) -> list[str]:
-    """The commands of a document that print something else than what it has."""
+def needs_library(document: Path) -> bool:
+    """Whether its commands compile applications in C++."""
+    return any(LIBRARY in it.text for it in commands_of(document))
+
+
+def departures(document: Path, programs: Path, room: Path, top: Path = TOP) -> list[str]:
+    """The commands of a document that print something else than what it has. They start in a folder
+    like the top of the repository."""
     commands, texts = commands_of(document), []
-    for command, output in zip(commands, outputs_of(commands, programs, room)):
+    for command, output in zip(commands, outputs_of(commands, programs, room, top)):
         if output != command.prints:
             lines = [f"{document}:{command.line}: {command.text}"]
             lines.append("  document: " + "\n            ".join(command.prints))
@@ -104,6 +114,8 @@ def main() -> int:
     with tempfile.TemporaryDirectory(prefix="det-console-") as name:
         room = Path(name)
         programs = build_programs(room / "programs", given.programs).folder
+        if needs_library(given.document):
+            build_library(is_proof=False)
         texts = departures(given.document, programs, room)
     print("\n".join([*texts, f"{len(texts)} commands print something else"]))
     return 1 if texts or not commands_of(given.document) else 0

@@ -25,11 +25,17 @@ PACKAGES = {
     "aarch64-linux-gnu-g++": "g++-aarch64-linux-gnu",
     "clang++": "clang",
     "cmake": "cmake",
+    "dpkg": "dpkg",
+    "dpkg-deb": "dpkg",
+    "dpkg-parsechangelog": "dpkg-dev",
+    "dpkg-shlibdeps": "dpkg-dev",
     "g++": "g++",
     "gcc": "gcc",
+    "lintian": "lintian",
     "nm": "binutils",
     "pkg-config": "pkg-config",
     "qemu-aarch64-static": "qemu-user-static",
+    "strip": "binutils",
 }
 
 

@@ -8,7 +8,7 @@ from typing import Any
 
 from builds import build_preload
 from children import has_child
-from commands import TOP, Bench, Outcome, Programs, run
+from commands import TOP, Bench, Outcome, Programs, run, without_children
 
 # The most seconds that a run may take.
 LIMIT = 60
@@ -37,14 +37,14 @@ class PreloadBench(Bench):
         return [path, *map(self.place, others)]
 
     def run_without(self, command: list[str], **how: Any) -> Outcome:
-        """How a command ends without the library."""
-        return run(command, TOP, {}, LIMIT, **how)
+        """How a command ends without the library, beside what children write to standard error."""
+        return without_children(run(command, TOP, {}, LIMIT, **how))
 
     def run_with(
         self, words: str, names: dict[str, str], **how: Any
     ) -> tuple[Outcome, list[int], bool]:
-        """How a command ends with the library, whose variables are `names`; what the library
-        counted; and whether det_lane left a child."""
+        """How a command ends with the library, whose variables are `names`, beside what children
+        write to standard error; what the library counted; and whether det_lane left a child."""
         counts, counted = os.pipe()
         mark = f"{self.folder.name}-{counted}-{id(names)}"
         env = dict(names, LD_PRELOAD=str(self.library), COUNTED=str(counted), MARK=mark)
@@ -56,4 +56,4 @@ class PreloadBench(Bench):
             is_left = words.startswith(LANE) and has_child(f"MARK={mark}")
             # A child that is left has the other end too, so there would be no end to read to.
             numbers = [] if is_left else [int(count) for count in lines.read().split()]
-        return outcome, numbers, is_left
+        return without_children(outcome), numbers, is_left

@@ -74,6 +74,20 @@ def test_proved_crates() -> None:
     assert set(listed_crates()) <= set(re.findall(r"`(\w+)`", text_of(GUARANTEES))), GUARANTEES
 
 
+NUMBERED = re.compile(r"\b(AoU|DEV)-(\d+)\b")
+SAFETY = "docs/SAFETY.md"
+
+
+def test_numbers_for_a_safety_case() -> None:
+    """Each item has a number of its own, in order, and each number that is cited has an item."""
+    rows = re.findall(r"^\| (AoU|DEV)-(\d+) \|", text_of(SAFETY), re.MULTILINE)
+    for kind in ("AoU", "DEV"):
+        numbers = [int(number) for it, number in rows if it == kind]
+        assert numbers and numbers == sorted(set(numbers)), kind
+    cited = {it for path in documents() for it in NUMBERED.findall(path.read_text())}
+    assert cited - set(rows) == set(), "cited, and not in " + SAFETY
+
+
 def output_by(programs: Programs, program: str, *words: str) -> str:
     return run([programs.path(program), *words], TOP, programs.environment()).out.decode()
 
@@ -217,5 +231,4 @@ def test_versions(programs: Programs) -> None:
     found = [(name_of(path), *pair) for path in documents() for pair in versions_in(path)]
     assert found, "no document names a version"
     assert [it for it in found if given[it[1]] != it[2]] == []
-    makefile = re.search(r"^VERSION = (\S+)$", text_of("Makefile"), re.M)
-    assert makefile and makefile[1] in given.values(), "Makefile: VERSION"
+    assert text_of("VERSION").strip() in given.values(), "VERSION"

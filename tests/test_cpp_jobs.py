@@ -15,8 +15,10 @@ from cpp_bench import EXAMPLES, CppBench, compile_example
 
 WORKERS = (1, 4, 16)
 SEED = 5
-# How many runs there are for each of these seeds.
+# How many runs there are for each of these seeds, and hints that come in each of them, with 0 in
+# place of numbers.
 RUNS, SEEDS = 1000, range(1, 6)
+HINTS = {b"  line 0", b"  wanted: stim 0", b"  wanted: cycle T, cycle -, sample E V or terminate"}
 
 
 def files(name: str, folder: Path = TOP / "examples") -> tuple[Path, Path]:
@@ -69,6 +71,7 @@ def test_random_files(seed: int, cpp: CppBench) -> None:
     assert not against.apart, "\n".join(against.apart)
     statuses = {status for _, status in against.seen}
     assert statuses >= {0, 1, 2, 3, 4, 5}, f"the files are too tame: {against.seen}"
+    assert HINTS <= set(against.hints), f"no file has these hints: {HINTS - set(against.hints)}"
 
 
 SANITIZED = {
@@ -132,6 +135,50 @@ def test_hints_on_manifests(cpp: CppBench) -> None:
     other = cpp.file("other.toml", text.replace('"cloud"', '"other"'))
     given = cpp.command([program, "needs", other])
     assert given.err == b"bad manifest: unknown job\n  job: cloud\n"
+
+
+WANTED = {
+    b"cycle 5\n": b"stim 1",
+    b"stim 1\nsample 0 5\n": b"cycle T, cycle - or terminate",
+    b"stim 1\ncycle 5\nsample 0\n": b"cycle T, cycle -, sample E V or terminate",
+    b"stim 1\ncycle 5\nsample  0 5\n": b"E as a decimal below 2",
+    b"stim 1\ncycle -\n": b"cycle T, cycle -, sample E V or terminate",
+    b"stim 1\nterminate\n\n": b"nothing behind terminate",
+    b"stim 1\nterminate\n" + b"x" * 200: b"nothing behind terminate",
+    b"stim 1\n" + b"x" * 129: b"a line of at most 128 bytes",
+    b"stim 1\r\n": b"no carriage return at the end of a line",
+    b"stim 1\ncycle 18446744073709551616\n": b"T as a decimal, 0 to 18446744073709551615",
+    b"stim 1\ncycle 0\nsample 3 5\n": b"E as a decimal below 2",
+    b"stim 1\ncycle 0\nsample 00 5\n": b"E as a decimal below 2",
+    b"stim 1\ncycle 0\nsample " + b"0" * 121: b"cycle T, cycle -, sample E V or terminate",
+    b"stim 1\ncycle 0\nsample 0 -0\n": b"V as a decimal, -1000000000000 to 1000000000000",
+    b"stim 1\ncycle 0\n" + b"sample 0 5\n" * 4097: b"at most 4096 samples in a cycle",
+    b"stim 1\nterminate": b"a line feed at the end",
+}
+
+
+@pytest.mark.parametrize("text", WANTED, ids=lambda it: repr(it[:40]))
+def test_hints_on_stimuli(text: bytes, cpp: CppBench) -> None:
+    """A bad stimulus has det's hint: what is wanted in place of its bad line."""
+    program = cpp.example_program("cloud")
+    words = ["record", files("cloud")[0], cpp.file("bad.stim", text)]
+    wanted, given = (cpp.command([it, *words]) for it in (cpp.det, program))
+    assert given.err.split(b"\n", 1)[1] == b"  wanted: " + WANTED[text] + b"\n"
+    assert given == wanted, f"{given.err!r}, not {wanted.err!r}"
+
+
+NOT_TOML = {b"job = \n": 1, b"# \xff\n": 1, b"a = 1\nb = 2\n\n[[event]\n": 4}
+NOT_TOML.update({b"a = 1\na = 2\n": 2, b'\ns = """\nx\n': 4, b"a = 1\r\nb = 08\r\n": 2})
+
+
+@pytest.mark.parametrize("text", NOT_TOML, ids=repr)
+def test_line_that_is_not_toml(text: bytes, cpp: CppBench) -> None:
+    """A manifest that isn't TOML has det's hint: the line at which it stops being that."""
+    program = cpp.example_program("cloud")
+    words = ["needs", cpp.file("bad.toml", text)]
+    wanted, given = (cpp.command([it, *words]) for it in (cpp.det, program))
+    assert given.err == b"bad manifest: not toml\n  line %d\n" % NOT_TOML[text]
+    assert given == wanted, f"{given.err!r}, not {wanted.err!r}"
 
 
 def test_hints_on_records(cpp: CppBench) -> None:

@@ -239,10 +239,7 @@ def test_two_ways(cpp: CppBench) -> None:
 
 
 def test_version(cpp: CppBench) -> None:
-    """The headers, the library and the Makefile have one version."""
-    text = (INCLUDE / "det" / "exec" / "version.h").read_text()
-    version = re.search(r'DET_VERSION_TEXT "(.*)"', text)
-    assert version and f"VERSION = {version[1]}\n" in (TOP / "Makefile").read_text()
+    """The headers and the library have one version. test_version.py has that of the headers."""
     checks = "int main(void) { return det_library_version() == DET_VERSION ? 0 : 1; }\n"
     source = cpp.file("version.c", f'#include "det/exec/version.h"\n{checks}')
     program = cpp.folder / "version"

@@ -23,7 +23,7 @@ LIBDIR = "lib/x86_64-linux-gnu"
 def prefix(bench: Bench, library: Path) -> Path:
     """A folder to which an installation with a folder of its own for libraries was moved."""
     to = bench.folder / "installed"
-    words = ["python3", "-B", TOP / "tools" / "install.py", "--version", "0.1.0", "--prefix", to]
+    words = ["python3", "-B", TOP / "tools" / "install.py", "--prefix", to]
     make([*words, "--libdir", LIBDIR, "--only-library", "--library", library])
     return Path(shutil.move(to, bench.folder / "moved"))
 
@@ -62,7 +62,11 @@ def test_cmake(bench: Bench, prefix: Path) -> None:
 def test_other_version(bench: Bench, prefix: Path) -> None:
     """A program that wants another version doesn't find the package."""
     need("g++", "cmake")
-    for version, is_found in (("0.1", True), ("0.1.0", True), ("0.2", False), ("1", False)):
+    whole = text_of("VERSION").strip()
+    major, minor, _ = map(int, whole.split("."))
+    others = (f"{major}.{minor + 1}", f"{major + 1}")
+    wanted = {f"{major}.{minor}": True, whole: True, **dict.fromkeys(others, False)}
+    for version, is_found in wanted.items():
         source = bench.folder / f"wants{version}"
         source.mkdir()
         (source / "CMakeLists.txt").write_text(
@@ -80,7 +84,7 @@ def test_adapter_target(bench: Bench, prefix: Path) -> None:
     sources = TOP / "tests" / "cpp"
     (bench.folder / "CMakeLists.txt").write_text(
         "cmake_minimum_required(VERSION 3.13)\nproject(vendor LANGUAGES CXX)\n"
-        "find_package(deterministic_client 0.1 REQUIRED)\n"
+        "find_package(deterministic_client REQUIRED)\n"
         f'add_executable(vendor "{sources}/vendor_application.cpp")\n'
         f'target_include_directories(vendor PRIVATE "{sources}/core")\n'
         "target_link_libraries(vendor PRIVATE deterministic_client::ara_adapter)\n"

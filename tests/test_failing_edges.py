@@ -43,12 +43,14 @@ REFUSED = (3, 4, 5)
 LONG = "det sim"
 
 
-def is_failed_write(setting: Setting, outcome: Outcome, whole: Outcome) -> bool:
+def is_failed_write(words: str, setting: Setting, outcome: Outcome, whole: Outcome) -> bool:
     """Whether a run ended as it has to where a write failed, which may be one to standard error."""
     is_same = (outcome.status, outcome.out) == (whole.status, whole.out)
     is_line_lost = is_same and outcome.err != whole.err and whole.err.startswith(outcome.err)
+    # A line of a child may be lost, which isn't compared, or cut off. The lane's own comes last.
+    is_of_child = words.startswith(LANE) and is_same and outcome.err.endswith(whole.err)
     line = b"" if setting.lasting else b"write fault"
-    return is_line_lost or begins(outcome, 7, line, whole)
+    return is_line_lost or is_of_child or begins(outcome, 7, line, whole)
 
 
 def has_lost_hint(outcome: Outcome, whole: Outcome) -> bool:
@@ -66,10 +68,10 @@ def is_good(words: str, setting: Setting, outcome: Outcome, whole: Outcome) -> b
     if setting.only:
         return outcome == Outcome(9, b"", b"child %d status %d\n" % (COPY, status))
     if setting.call == "write":
-        return is_failed_write(setting, outcome, whole)
+        return is_failed_write(words, setting, outcome, whole)
     if words.startswith(LANE):
-        # Where one copy has decided, no other needs to be waited for.
-        is_decided = setting.call == "wait" and whole.status == 9 and outcome == whole
+        # Where one copy has decided, no other needs to be waited for, nor its errors to be read.
+        is_decided = setting.call in ("wait", "read") and whole.status == 9 and outcome == whole
         return is_decided or begins(outcome, 10, b"spawn fault", whole)
     return begins(outcome, 6, b"read fault", whole) or has_lost_hint(outcome, whole)
 

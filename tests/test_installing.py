@@ -25,7 +25,8 @@ def run_installer(programs: Programs, folder: Path, *words: str, umask: int = 0o
 def files_of_package() -> list[str]:
     """What is installed at least: programs, manual pages, documents, library and tools."""
     found = [f"bin/{it}" for it in NAMES] + [f"share/man/man1/{it}.1" for it in NAMES]
-    documents = ("README.md", "docs/FORMATS.md", "examples/bank.toml")
+    found += [f"share/bash-completion/completions/{it}" for it in NAMES]
+    documents = ("README.md", "docs/FORMATS.md", "examples/bank.toml", "examples/many/on_hosts.sh")
     found += [f"share/doc/det/{it}" for it in documents]
     found += [LIBRARY, "lib/pkgconfig/deterministic_client.pc"]
     package = "lib/cmake/deterministic_client/deterministic_client-config"
@@ -33,17 +34,24 @@ def files_of_package() -> list[str]:
     found += [f"include/det/exec/{it.name}" for it in (TOP / "include/det/exec").glob("*.h")]
     adapter = (TOP / "include/ara/exec").glob("*.h")
     found += [f"include/det/adapter/ara/exec/{it.name}" for it in adapter]
-    return found + ["bin/det_record", "bin/det_view"]
+    tools = ["bin/det_record", "bin/det_stimulus", "bin/det_view", "bin/det_page"]
+    return found + tools
 
 
 def wrong_modes(root: Path) -> list[str]:
     """The files whose modes aren't those of an installed file, whatever the umask was."""
     found = []
     for path in (root, *root.rglob("*")):
-        runs = path.is_dir() or path.parent.name == "bin"
+        is_script = path.suffix == ".sh" and path.read_bytes().startswith(b"#!")
+        runs = path.is_dir() or path.parent.name == "bin" or is_script
         if path.stat().st_mode & 0o777 != (0o755 if runs else 0o644):
             found.append(f"{path} {path.stat().st_mode:o}")
     return found
+
+
+def version_line(name: str) -> bytes:
+    """What a program of this version prints."""
+    return f"{name} {(TOP / 'VERSION').read_text()}".encode()
 
 
 def make_other(root: Path) -> None:
@@ -56,13 +64,16 @@ def test_install_and_uninstall(bench: Bench, library: Path) -> None:
     """Installed files have their modes and run; removed, they and their own folders are gone."""
     assert library.is_file()
     root = Path(str(bench.folder) + PREFIX)
-    words = ["--version", "0.1.0", "--library", str(library)]
+    words = ["--library", str(library)]
     first = run_installer(bench.programs, bench.folder, *words, umask=0o077)
     assert not first.status, str(first)
     assert not wrong_modes(root)
     assert [it for it in files_of_package() if not (root / it).is_file()] == []
     for name in NAMES:
-        assert run([root / "bin" / name, "--version"], root, {}).out == f"{name} 0.1.0\n".encode()
+        assert run([root / "bin" / name, "--version"], root, {}).out == version_line(name)
+    for tool in ("det_record", "det_stimulus", "det_view", "det_page"):
+        file = root / "share/det/tools" / f"{tool}.py"
+        assert run(["python3", "-B", file, "--help"], root).status == 0, tool
     make_other(root)
     second = run_installer(bench.programs, bench.folder, "--uninstall")
     assert not second.status, str(second)
@@ -106,7 +117,7 @@ def test_missing_program(programs: Programs, folder: Path) -> None:
     assert not (folder / "to").exists()
 
 
-@pytest.mark.parametrize("target, word", (("install", b"--version"), ("uninstall", b"--uninstall")))
+@pytest.mark.parametrize("target, word", (("install", b"--libdir"), ("uninstall", b"--uninstall")))
 def test_makefile(target: str, word: bytes) -> None:
     """`make install` and `make uninstall` only call the installer, with PREFIX and DESTDIR."""
     # Below `make test` it would also print the folder that it is in.

@@ -15,7 +15,7 @@ import pytest
 
 from children import has_child
 from clients import Client
-from commands import TOP, Bench, Case, Outcome, Word, run
+from commands import TOP, Bench, Case, Outcome, Word, run, without_children
 
 MANIFEST = TOP / "examples" / "guard.toml"
 STIMULUS = TOP / "examples" / "guard.stim"
@@ -26,9 +26,13 @@ LARGE = 100_000_000
 # What det_lane has on its own standard input.
 FOR_NO_CHILD = b"no child is given this\n"
 SPAWN_FAULT = Outcome(10, b"", b"spawn fault\n")
+# The most bytes of a line of a child, with its name, and what is left of them for its text.
+MOST_LINE = 4096
+MOST_TEXT = MOST_LINE - len("child 0: ")
 
-# `flip N` turns the lowest bit of byte N of what it reads.
-FLIP = """flip() {
+# `x N` writes that many letters, and `flip N` turns the lowest bit of byte N of what it reads.
+FLIP = """x() { head -c "$1" /dev/zero | tr '\\0' x; }
+flip() {
     python3 -c 'import sys
 b = bytearray(sys.stdin.buffer.read())
 b[int(sys.argv[1])] ^= 1
@@ -38,22 +42,27 @@ sys.stdout.buffer.write(b)' "$1"
 
 
 def script(
-    name: str, text: str, status: int, out: str = "", err: str = "", copies: int = 2
+    name: str,
+    text: str,
+    status: int,
+    out: str = "",
+    err: str = "",
+    copies: int = 2,
+    options: str = "",
 ) -> Case:
     """A case by the text of its script, and how det_lane has to end."""
-    words: list[Word] = ["det_lane", "./copy", copies, MANIFEST, STIMULUS]
+    words: list[Word] = ["det_lane", "./copy", copies, MANIFEST, STIMULUS, *options.split()]
     outcome = Outcome(status, out.encode(), err.encode())
     return Case(name, words, outcome, {"copy": text.encode()})
 
 
-def agrees(name: str, text: str, copies: int = 2) -> Case:
-    return script(name, text, 0, "agree 3\n", copies=copies)
+def agrees(name: str, text: str, err: str = "", copies: int = 2, options: str = "") -> Case:
+    return script(name, text, 0, "agree 3\n", err, copies, options)
 
 
 CASES = [
     agrees("two copies agree", "record"),
-    agrees("eight copies agree", "record", 8),
-    agrees("what goes to standard error is dropped", "echo bad >&2; record"),
+    agrees("eight copies agree", "record", copies=8),
     agrees("standard input is empty", "[ $(wc -c) = 0 ] && record"),
     agrees("a child that closes its output and goes on", "record; exec >&-; sleep 2"),
     script(
@@ -117,6 +126,123 @@ CASES = [
         "[ $K = 1 ] || { record | flip 40; exit 3; }; record",
         1,
         out="differ copy 1 header\n",
+    ),
+]
+# What children write to standard error.
+ERRORS = [
+    agrees(
+        "a line names its child",
+        "[ $K = 1 ] || echo bad >&2; record",
+        "child 1: bad\n",
+    ),
+    agrees(
+        "an empty line and a last one without an end",
+        "[ $K = 1 ] || printf 'a\\n\\nb' >&2; record",
+        "child 1: a\nchild 1: \nchild 1: b\n",
+    ),
+    agrees(
+        "lines of two children aren't mixed",
+        "if [ $K = 1 ]; then printf a; sleep 2; echo b; else sleep 1; echo c; fi >&2; record",
+        "child 1: c\nchild 0: ab\n",
+    ),
+    agrees(
+        "a line of the greatest length, and one that is cut",
+        f"[ $K = 1 ] && {{ x {MOST_TEXT}; echo; x {MOST_TEXT + 2}; echo; }} >&2; record",
+        f"child 0: {'x' * MOST_TEXT}\n" * 2 + "child 0: xx\n",
+    ),
+    agrees(
+        "more than a pipe holds, before the record, from the copy that is read last",
+        "[ $K = 3 ] && yes | head -c 400000 >&2; record",
+        "child 2: y\n" * 200_000,
+        copies=3,
+    ),
+    agrees(
+        "a child that goes on after its output",
+        "record; exec >&-; [ $K = 1 ] || { sleep 1; yes | head -c 200000 >&2; }",
+        "child 1: y\n" * 100_000,
+    ),
+    agrees(
+        "a process that a child leaves behind isn't waited for",
+        "record; [ $K = 1 ] || { echo before >&2; { sleep 1; echo after >&2; } >&- & }",
+        "child 1: before\n",
+    ),
+    script(
+        "the child's lines come before the lane's own",
+        "[ $K = 1 ] || { echo why >&2; exit 3; }; record",
+        9,
+        err="child 1: why\nchild 1 status 3\n",
+    ),
+    script(
+        "the last words of a child that is killed",
+        "[ $K = 1 ] || { printf help >&2; kill -9 $$; }; record",
+        10,
+        err="child 1: help\nspawn fault\n",
+    ),
+    agrees(
+        "a child without a standard error",
+        "exec 2>&-; record",
+    ),
+]
+# The words behind `--`, which a child has from its sixth argument on.
+FURTHER = [
+    agrees("no further words", "[ $# = 5 ] || echo $# >&2; record", options="--"),
+    agrees(
+        "further words",
+        '[ $K = 1 ] || echo $# $6 $7 $8 >&2; set -- "$1" "$2" "$3" "$4" "$5"; record',
+        "child 1: 8 -- --timeout 0\n",
+        options="--timeout 60 -- -- --timeout 0",
+    ),
+    script(
+        "further words are those of `det record`",
+        "record",
+        0,
+        "agree 3\n",
+        options="-- --seed 7 --strict",
+    ),
+    script(
+        "further words that `det record` refuses",
+        "record 2>&-",
+        9,
+        err="child 0 status 2\n",
+        options="-- --workers 1",
+    ),
+]
+LATE = "spawn fault\n  child {} wrote nothing for 1 s\n"
+# Children that have a second to write something.
+TIMED = [
+    agrees("a child that writes in time", "sleep 0.3; record", options="--timeout 1"),
+    agrees(
+        "the time begins anew with each wait",
+        "{ record; } | { for k in 1 2 3 4; do head -c 60; sleep 0.6; done; cat; }",
+        options="--timeout 1",
+    ),
+    script(
+        "a child that writes nothing",
+        "[ $K = 1 ] || exec sleep 1000; record",
+        10,
+        err=LATE.format(1),
+        options="--timeout 1",
+    ),
+    script(
+        "a child that stops in its record",
+        "[ $K = 1 ] && { record | head -c 60; exec sleep 1000; }; record",
+        10,
+        err=LATE.format(0),
+        options="--timeout 1",
+    ),
+    script(
+        "a child that closes its output and goes on",
+        "record; exec >&-; [ $K = 1 ] || exec sleep 1000",
+        10,
+        err=LATE.format(1),
+        options="--timeout 1",
+    ),
+    script(
+        "lines on standard error don't count",
+        "[ $K = 1 ] && for k in 1 2 3; do sleep 0.4; echo $k >&2; done; exec sleep 1000",
+        10,
+        err="child 0: 1\nchild 0: 2\n" + LATE.format(0),
+        options="--timeout 1",
     ),
 ]
 # Children that would run on for longer than a case may take.
@@ -187,6 +313,21 @@ def test_children(case: Case, lane: Lane) -> None:
     lane.check(case, WITHIN)
 
 
+@pytest.mark.parametrize("case", ERRORS, ids=str)
+def test_standard_error(case: Case, lane: Lane) -> None:
+    lane.check(case, WITHIN)
+
+
+@pytest.mark.parametrize("case", FURTHER, ids=str)
+def test_further_words(case: Case, lane: Lane) -> None:
+    lane.check(case, WITHIN)
+
+
+@pytest.mark.parametrize("case", TIMED, ids=str)
+def test_time(case: Case, lane: Lane) -> None:
+    lane.check(case, STOPPED_WITHIN)
+
+
 @pytest.mark.parametrize("case", STOPPED, ids=str)
 def test_stopped_children(case: Case, lane: Lane) -> None:
     lane.check(case, STOPPED_WITHIN)
@@ -212,6 +353,7 @@ def test_refused_starts(lane: Lane) -> None:
             resource.setrlimit(resource.RLIMIT_NOFILE, (most, most))
 
         given = lane.run_marked("yes", 3, "m", "s", preexec_fn=limit_files, limit=60)
+        given = without_children(given)
         statuses.add(given.status)
         assert not given.out, f"with {most} files: {given}"
         assert (given.status == 10) == (given == SPAWN_FAULT), f"with {most} files: {given}"

@@ -10,7 +10,8 @@ from typing import Optional
 import pytest
 
 from commands import TOP, Bench, excerpt
-from console import departures
+from console import departures, needs_library
+from cpp_bench import need
 from documents import documents, name_of
 
 TUTORIAL = TOP / "docs" / "TUTORIAL.md"
@@ -25,10 +26,16 @@ COMPILER = "g++"
 PRINTED = ("agree", "genuine", "terminate")
 
 
+@pytest.mark.slow
 @pytest.mark.parametrize("document", CONSOLE, ids=name_of)
-def test_console(document: Path, bench: Bench) -> None:
+def test_console(document: Path, bench: Bench, request: pytest.FixtureRequest) -> None:
     """Each command of the console blocks prints what the document has."""
-    assert departures(document, bench.programs.folder, bench.folder) == []
+    library = None
+    if needs_library(document):
+        need("g++")
+        library = request.getfixturevalue("library")
+    link_top(bench, library)
+    assert departures(document, bench.programs.folder, bench.folder, bench.folder) == []
 
 
 def test_tutorial_has_blocks() -> None:

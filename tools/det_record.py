@@ -1,29 +1,35 @@
 #!/usr/bin/env python3
 """Reads records of `det`, formats 1 and 2, as docs/FORMATS.md describes them.
 
-    python3 tools/det_record.py RECORD
+    python3 tools/det_record.py RECORD                    a summary
+    python3 tools/det_record.py RECORD --csv cycles       a table, a row for each cycle
+    python3 tools/det_record.py RECORD --csv samples      .. for each sample
+    python3 tools/det_record.py RECORD --csv elements     .. for each element after each cycle
+    python3 tools/det_record.py RECORD --hdf5 FILE        all of it, for programs that read HDF5
 
-prints a summary of a record. It ends with 5 where the record has a fault, whose line is that of
-`det show`, with 6 where the file can't be read, and with 7 where the summary can't be written. As a
-module:
+Exit statuses: 0 done; 2 bad words; 5 the record has a fault, whose line is that of `det show`, and
+what is before it was written; 6 the record can't be read; 7 the result can't be written; 11 python3
+has no h5py, which only --hdf5 needs. As a module:
 
     with open(name, "rb") as stream:
         for item in RecordReader(stream).items():
             ...
 
 gives the header and then each frame as soon as it is read whole, and raises `BadRecord` at a fault.
-Elements stay bytes until they are asked for. One frame is held at a time. Python's standard
-library is all that it needs.
+Elements stay bytes until they are asked for. One frame is held at a time. Except for --hdf5,
+Python's standard library is all that it needs.
 """
 
 from __future__ import annotations
 
 import argparse
-import struct
+import os
 import sys
 from dataclasses import dataclass
-from typing import BinaryIO, Container, Iterator, NoReturn, Optional, Sequence
+from typing import Iterator, Optional, TextIO
 
+from record_csv import TABLES, write_csv
+from record_reader import Readable, RecordReader
 from record_values import (
     BadRecord,
     Discover,
@@ -64,239 +70,7 @@ __all__ = [
     "Terminate",
 ]
 
-MOST_RUNS = 1_000_000
-MOST_ELEMENTS = 65_536
-MOST_ELEMENT_BYTES = 64
-MOST_SAMPLES = 4_096
-MOST_OUTPUT = 1_048_576
-MOST_VALUE = 10**12
-PIECE = 1 << 18
 STANDARD_OUTPUT = 1
-NAME_BYTES = frozenset(b"abcdefghijklmnopqrstuvwxyz0123456789_")
-SAMPLE = struct.Struct(">Hq")
-# What reads an unsigned number, by how many bytes it has.
-UNSIGNED = {size: struct.Struct(f">{code}").unpack_from for size, code in zip((1, 2, 4, 8), "BHIQ")}
-# The ranges of a sample's value, read without its sign.
-VALUE_RANGES = ((0, MOST_VALUE), (2**64 - MOST_VALUE, 2**64 - 1))
-REGISTER, DISCOVER, INIT, RUN, TERMINATE = range(1, 6)
-
-
-class Cursor:
-    """The bytes of a stream, read in pieces, and numbers that are judged byte by byte."""
-
-    def __init__(self, stream: BinaryIO) -> None:
-        self.stream = stream
-        self.data = b""
-        self.at = 0
-        self.dropped = 0
-
-    @property
-    def offset(self) -> int:
-        return self.dropped + self.at
-
-    def has(self, length: int) -> bool:
-        """Whether as many bytes are ahead. Where not, all that are left are in `data`."""
-        return len(self.data) - self.at >= length or self._fill(length)
-
-    def _fill(self, length: int) -> bool:
-        pieces = [self.data[self.at :]]
-        ahead = len(pieces[0])
-        self.dropped += self.at
-        self.at = 0
-        while ahead < length:
-            piece = self.stream.read(max(PIECE, length - ahead))
-            if not piece:
-                break
-            pieces.append(piece)
-            ahead += len(piece)
-        self.data = b"".join(pieces)
-        return ahead >= length
-
-    def stop(self, ahead: int, reason: Reason) -> NoReturn:
-        """Refuses the byte some bytes ahead."""
-        raise BadRecord(self.offset + ahead, reason)
-
-    def stop_at_end(self) -> NoReturn:
-        self.stop(len(self.data) - self.at, Reason.TRUNCATED)
-
-    def take(self, length: int) -> bytes:
-        """The next bytes, whatever they are."""
-        if not self.has(length):
-            self.stop_at_end()
-        self.at += length
-        return self.data[self.at - length : self.at]
-
-    def number(self, width: int, least: int, most: int) -> int:
-        """An unsigned number of some bytes within a range."""
-        if len(self.data) - self.at >= width or self.has(width):
-            value = UNSIGNED[width](self.data, self.at)[0]
-            if least <= value <= most:
-                self.at += width
-                return value
-        self.refuse(width, ((least, most),))
-
-    def flag(self) -> bool:
-        """A byte that is 0 or 1."""
-        return self.number(1, 0, 1) == 1
-
-    def refuse(self, width: int, ranges: Sequence[tuple[int, int]]) -> NoReturn:
-        """Refuses a number at the first of its bytes with which no value in the ranges is left."""
-        ahead = self.data[self.at : self.at + width]
-        for read in range(1, len(ahead) + 1):
-            left = 8 * (width - read)
-            low = int.from_bytes(ahead[:read], "big") << left
-            high = low | ((1 << left) - 1)
-            if not any(least <= high and low <= most for least, most in ranges):
-                self.stop(read - 1, Reason.RANGE)
-        self.stop_at_end()
-
-    def signed_number(self) -> int:
-        return int.from_bytes(self.take(8), "big", signed=True)
-
-    def sample_value(self) -> int:
-        if self.has(8):
-            value = int.from_bytes(self.data[self.at : self.at + 8], "big", signed=True)
-            if abs(value) <= MOST_VALUE:
-                self.at += 8
-                return value
-        self.refuse(8, VALUE_RANGES)
-
-    def exactly(self, expected: bytes, reason: Reason) -> None:
-        for byte in expected:
-            self.one_of((byte,), reason)
-
-    def one_of(self, allowed: Container[int], reason: Reason) -> int:
-        """A byte that is one of those allowed."""
-        if not self.has(1):
-            self.stop_at_end()
-        byte = self.data[self.at]
-        if byte not in allowed:
-            self.stop(0, reason)
-        self.at += 1
-        return byte
-
-
-def read_event(cursor: Cursor, record_format: int) -> Event:
-    capacity = cursor.number(2, 1, 1_024)
-    length = cursor.number(1, 1, 32)
-    name = bytes(cursor.one_of(NAME_BYTES, Reason.RANGE) for _ in range(length))
-    is_fresh = record_format == 2 and cursor.flag()
-    return Event(capacity, name.decode("ascii"), is_fresh)
-
-
-def read_header(cursor: Cursor) -> Header:
-    cursor.exactly(b"DETREC", Reason.MAGIC)
-    cursor.exactly(b"\0", Reason.VERSION)
-    record_format = cursor.one_of((1, 2), Reason.VERSION)
-    job = cursor.number(2, 0, 2**16 - 1)
-    seed = cursor.number(8, 0, 2**64 - 1)
-    cycle_time = cursor.number(8, 1, 2**63 - 1)
-    params = tuple(cursor.signed_number() for _ in range(cursor.number(2, 0, 16)))
-    events = [read_event(cursor, record_format) for _ in range(cursor.number(2, 0, 256))]
-    return Header(record_format, job, seed, cycle_time, params, tuple(events))
-
-
-def even_stride(cursor: Cursor, count: int, tail: int) -> Optional[int]:
-    """The bytes that each of some elements takes, where all are there and take as many."""
-    if count == 0 or not cursor.has(2):
-        return None
-    stride = int.from_bytes(cursor.data[cursor.at : cursor.at + 2], "big") + 2 + tail
-    if stride > 2 + MOST_ELEMENT_BYTES + tail or not cursor.has(count * stride):
-        return None
-    start, end = cursor.at, cursor.at + count * stride
-    high, low = cursor.data[start:end:stride], cursor.data[start + 1 : end : stride]
-    is_even = high.count(high[:1]) == count and low.count(low[:1]) == count
-    return stride if is_even else None
-
-
-def read_elements(cursor: Cursor, has_draws: bool) -> Elements:
-    """Elements of one length are judged all at once, and others one by one."""
-    count = cursor.number(4, 0, MOST_ELEMENTS)
-    tail = 4 if has_draws else 0
-    stride = even_stride(cursor, count, tail)
-    if stride is not None:
-        return Elements(cursor.take(count * stride), count, has_draws, stride)
-    pieces = []
-    for _ in range(count):
-        length = cursor.number(2, 0, MOST_ELEMENT_BYTES)
-        pieces += (length.to_bytes(2, "big"), cursor.take(length + tail))
-    return Elements(b"".join(pieces), count, has_draws, None)
-
-
-def read_samples(cursor: Cursor, events: int) -> tuple[Sample, ...]:
-    count = cursor.number(4, 0, MOST_SAMPLES if events else 0)
-    if count == 0:
-        return ()
-    size = count * SAMPLE.size
-    if cursor.has(size):
-        raw = cursor.data[cursor.at : cursor.at + size]
-        samples = tuple(map(Sample._make, SAMPLE.iter_unpack(raw)))
-        if all(event < events and abs(value) <= MOST_VALUE for event, value in samples):
-            cursor.at += size
-            return samples
-    numbers = range(count)
-    return tuple(Sample(cursor.number(2, 0, events - 1), cursor.sample_value()) for _ in numbers)
-
-
-def read_refused(cursor: Cursor) -> Refused:
-    phase = Phase(cursor.number(1, 0, 2))
-    is_pool = phase is Phase.POOL
-    pass_number = cursor.number(1, 0, 7 if is_pool else 0)
-    element = cursor.number(4, 0, 65_535 if is_pool else 0)
-    return Refused(phase, pass_number, element, cursor.number(4, 0, 2**32 - 1))
-
-
-def read_run(cursor: Cursor, header: Header) -> Run:
-    """A Run frame after its tag."""
-    time = cursor.number(8, 0, 2**64 - 1) if cursor.flag() else None
-    samples = read_samples(cursor, len(header.events))
-    if cursor.flag():
-        return Run(time, samples, read_refused(cursor))
-    elements = read_elements(cursor, header.format == 2)
-    output = cursor.take(cursor.number(4, 0, MOST_OUTPUT))
-    return Run(time, samples, Finished(elements, output))
-
-
-class RecordReader:
-    """Reads a record from a stream, from its beginning to its end."""
-
-    def __init__(self, stream: BinaryIO) -> None:
-        self.cursor = Cursor(stream)
-
-    @property
-    def offset(self) -> int:
-        """How many bytes were read so far."""
-        return self.cursor.offset
-
-    def items(self) -> Iterator[Item]:
-        """The header, then the frames. Raises `BadRecord` after them where there is a fault."""
-        header = read_header(self.cursor)
-        yield header
-        self._tag((REGISTER,))
-        yield Register()
-        self._tag((DISCOVER,))
-        yield Discover()
-        self._tag((INIT,))
-        yield Init(read_elements(self.cursor, has_draws=False))
-        runs = 0
-        while self._tag((RUN, TERMINATE), runs) == RUN:
-            runs += 1
-            yield read_run(self.cursor, header)
-        yield Terminate()
-        if self.cursor.has(1):
-            self.cursor.stop(0, Reason.TRAILING)
-
-    def _tag(self, allowed: Sequence[int], runs: int = 0) -> int:
-        if not self.cursor.has(1):
-            self.cursor.stop_at_end()
-        tag = self.cursor.data[self.cursor.at]
-        if tag == RUN and runs == MOST_RUNS:
-            self.cursor.stop(0, Reason.TOO_MANY)
-        if tag not in allowed:
-            known = REGISTER <= tag <= TERMINATE
-            self.cursor.stop(0, Reason.ORDER if known else Reason.RANGE)
-        self.cursor.at += 1
-        return tag
 
 
 @dataclass
@@ -336,7 +110,7 @@ class Summary:
         if self.first_refusal is None:
             self.first_refusal = self.cycles, run.outcome
 
-    def read(self, stream: BinaryIO) -> Iterator[Item]:
+    def read(self, stream: Readable) -> Iterator[Item]:
         """Gives the items of a record, each once it was seen. A fault is kept and ends them."""
         reader = RecordReader(stream)
         try:
@@ -373,18 +147,67 @@ def header_lines(header: Header) -> Iterator[str]:
         yield f"event {number} {event.name} {event.capacity} {event.policy}"
 
 
-def summary_of(name: str) -> Summary:
+class ReadFault(Exception):
+    """The record can't be read; the text says why."""
+
+
+class NoPackage(Exception):
+    """A module lacks; the text says which package has it."""
+
+
+class Source:
+    """The bytes of a file. A failed read isn't an OSError, as a failed write is."""
+
+    def __init__(self, name: str) -> None:
+        try:
+            self.stream = open(name, "rb")
+        except OSError as error:
+            raise ReadFault(error) from error
+
+    def read(self, size: int) -> bytes:
+        try:
+            return self.stream.read(size)
+        except OSError as error:
+            raise ReadFault(error) from error
+
+    def rewind(self) -> None:
+        try:
+            self.stream.seek(0)
+        except OSError as error:
+            raise ReadFault(f"{error}: --hdf5 reads a record twice") from error
+
+
+def print_summary(source: Source) -> Optional[BadRecord]:
     summary = Summary()
-    with open(name, "rb") as stream:
-        for _ in summary.read(stream):
-            pass
-    return summary
-
-
-def write(summary: Summary) -> None:
-    """Writes a summary to standard output, which may be closed."""
-    with open(STANDARD_OUTPUT, "w", encoding="ascii", closefd=False) as out:
+    for _ in summary.read(source):
+        pass
+    with standard_output() as out:
         out.writelines(f"{line}\n" for line in summary.lines())
+    return summary.fault
+
+
+def print_table(source: Source, table: str) -> Optional[BadRecord]:
+    summary = Summary()
+    with standard_output() as out:
+        write_csv(table, summary.read(source), out)
+    return summary.fault
+
+
+def export(source: Source, name: str) -> Optional[BadRecord]:
+    """Writes an HDF5 file. Only this needs h5py, so only here its module is imported."""
+    try:
+        from record_hdf5 import ChangedRecord, write_hdf5
+    except ImportError as error:
+        raise NoPackage(f"{error}: install the Debian package python3-h5py") from error
+    try:
+        return write_hdf5(source, source.rewind, name)
+    except ChangedRecord as error:
+        raise ReadFault("the record was changed while it was read") from error
+
+
+def standard_output() -> TextIO:
+    """Standard output, which may be closed."""
+    return open(STANDARD_OUTPUT, "w", encoding="ascii", newline="", closefd=False)
 
 
 def fail(status: int, line: str) -> int:
@@ -392,21 +215,42 @@ def fail(status: int, line: str) -> int:
     return status
 
 
-def main() -> int:
+def is_same_file(one: str, other: str) -> bool:
+    return os.path.exists(other) and os.path.exists(one) and os.path.samefile(one, other)
+
+
+def arguments() -> argparse.Namespace:
     parser = argparse.ArgumentParser(
         description=__doc__, formatter_class=argparse.RawDescriptionHelpFormatter
     )
     parser.add_argument("record", metavar="RECORD")
-    name = parser.parse_args().record
+    forms = parser.add_mutually_exclusive_group()
+    forms.add_argument("--csv", choices=TABLES, help="a table on standard output")
+    forms.add_argument("--hdf5", metavar="FILE", help="an HDF5 file; RECORD is read twice")
+    given = parser.parse_args()
+    if given.hdf5 and is_same_file(given.record, given.hdf5):
+        parser.error("FILE is the record itself")
+    return given
+
+
+def run(given: argparse.Namespace) -> Optional[BadRecord]:
+    source = Source(given.record)
+    if given.csv:
+        return print_table(source, given.csv)
+    return export(source, given.hdf5) if given.hdf5 else print_summary(source)
+
+
+def main() -> int:
+    given = arguments()
     try:
-        summary = summary_of(name)
-    except OSError as error:
+        fault = run(given)
+    except ReadFault as error:
         return fail(6, f"read fault: {error}")
-    try:
-        write(summary)
-    except OSError as error:
+    except NoPackage as error:
+        return fail(11, str(error))
+    except (OSError, RuntimeError) as error:
         return fail(7, f"write fault: {error}")
-    return 0 if summary.fault is None else fail(5, f"bad record: copy 0 {summary.fault}")
+    return 0 if fault is None else fail(5, f"bad record: copy 0 {fault}")
 
 
 if __name__ == "__main__":

@@ -1,16 +1,16 @@
 #!/usr/bin/env python3
-"""Installs the built programs, library, headers, manual pages, documents and tools.
+"""Installs the built programs, library, headers, manual pages, completions, documents and tools.
 
-    python3 tools/install.py --version 0.1.0 --prefix /usr/local     what `make install` does
-    python3 tools/install.py --uninstall --prefix /usr/local         what `make uninstall` does
-    .. --destdir FOLDER                                              below that folder
-    .. --libdir lib/x86_64-linux-gnu --includedir .. --mandir ..     folders below the prefix
-    .. --only-library --library ARCHIVE                              as for another target
+    python3 tools/install.py --prefix /usr/local                   what `make install` does
+    python3 tools/install.py --uninstall --prefix /usr/local       what `make uninstall` does
+    .. --destdir FOLDER                                            below that folder
+    .. --libdir lib/x86_64-linux-gnu --includedir .. --mandir ..   folders below the prefix
+    .. --only-library --library ARCHIVE                            as for another target
 
 It builds nothing, and copies nothing if a file is missing: `make` makes them all. What was
 installed is listed in PREFIX/share/det/installed, by which it is removed. The library's files for
-CMake and pkg-config find the prefix by where they are, so an installation can be moved. It only
-needs Python's standard library.
+CMake and pkg-config find the prefix by where they are, so an installation can be moved. They have
+the version of the file VERSION. It only needs Python's standard library.
 """
 
 from __future__ import annotations
@@ -29,11 +29,12 @@ from crate_list import is_built, listed_crates, needed_by, program_file  # noqa:
 
 TOP = Path(__file__).resolve().parent.parent
 PROGRAMS = ("det", "det_lane", "det_twin")
-# The tools of records: each is a program under its own name, over the modules beside it.
-TOOLS = ("det_record", "det_view")
-MODULES = ("tools/det_*.py", "tools/record_*.py", "tools/view/*.py")
-DOCUMENTS = ("README.md", "docs/*.md", "docs/pictures/*")
+# The tools of records and stimuli: a program each, under its own name, over the modules beside it.
+TOOLS = ("det_record", "det_stimulus", "det_view", "det_page")
+MODULES = ("tools/det_*.py", "tools/record_*.py", "tools/stimulus_*.py", "tools/view/*.py")
+DOCUMENTS = ("README.md", "CHANGELOG.md", "docs/*.md", "docs/pictures/*")
 LIBRARY = "out/lib/libdeterministic_client.a"
+PAGE = "out/page/det_page.html"
 PACKAGE = "deterministic_client"
 # The headers, and where below INCLUDEDIR they go. The adapter has a folder of its own, so that it
 # hides no vendor's header.
@@ -120,10 +121,18 @@ def manuals(places: Places) -> list[Copy]:
     return [Copy(f"{places.mandir}/man1/{it}.1", source(f"docs/{it}.1")) for it in PROGRAMS]
 
 
+def completions() -> list[Copy]:
+    """What bash loads when a program's name is typed."""
+    to = "share/bash-completion/completions"
+    return [Copy(f"{to}/{it}", source(f"completions/{it}")) for it in PROGRAMS]
+
+
 def documents() -> list[Copy]:
-    """The documents, and the examples, under their names in the repository."""
+    """The documents, and the examples, under their names in the repository. Scripts can be run."""
     names = [name for pattern in (*DOCUMENTS, "examples/**/*") for name in files_like(pattern)]
-    return [Copy(f"share/doc/det/{name}", source(name)) for name in names]
+    files = {it: source(it) for it in names}
+    modes = {it: PROGRAM if data.startswith(b"#!") else DATA for it, data in files.items()}
+    return [Copy(f"share/doc/det/{it}", data, modes[it]) for it, data in files.items()]
 
 
 def tools(prefix: str) -> list[Copy]:
@@ -137,10 +146,15 @@ def tools(prefix: str) -> list[Copy]:
     return calls + [Copy(f"share/det/{name}", source(name)) for name in names]
 
 
-def package_file(template: str, to: str, places: Places, version: str) -> Copy:
+def page() -> list[Copy]:
+    """The page for a browser, which det_page fills, if `make page` built it."""
+    return [Copy("share/det/det_page.html", source(PAGE))] if (TOP / PAGE).is_file() else []
+
+
+def package_file(template: str, to: str, places: Places) -> Copy:
     """A file by which a build finds the library, with paths from its own folder."""
     values = {
-        "VERSION": version,
+        "VERSION": source("VERSION").decode().strip(),
         "TO_PREFIX": os.path.relpath(".", os.path.dirname(to)),
         "LIBDIR": places.libdir,
         "INCLUDEDIR": places.includedir,
@@ -151,7 +165,7 @@ def package_file(template: str, to: str, places: Places, version: str) -> Copy:
     return Copy(to, text.encode())
 
 
-def library(places: Places, version: str, archive: str) -> list[Copy]:
+def library(places: Places, archive: str) -> list[Copy]:
     """The static library with its headers, and the files for CMake and pkg-config."""
     headers = {
         name: f"{places.includedir}/{folder}/{Path(name).name}"
@@ -168,7 +182,7 @@ def library(places: Places, version: str, archive: str) -> list[Copy]:
     }
     return [
         Copy(f"{places.libdir}/lib{PACKAGE}.a", source(archive)),
-        *[package_file(template, name, places, version) for template, name in to.items()],
+        *[package_file(template, name, places) for template, name in to.items()],
         *[Copy(place, source(name)) for name, place in headers.items()],
     ]
 
@@ -177,9 +191,10 @@ def all_copies(given: argparse.Namespace, places: Places) -> list[Copy]:
     """Everything, with the list of it as the last file. In the list, a line that ends with a slash
     is a folder of its own."""
     archive = str(given.library.resolve()) if given.library else LIBRARY
-    copies = library(places, given.version, archive)
+    copies = library(places, archive)
     if not given.only_library:
-        copies += [*programs(given.programs), *manuals(places), *tools(given.prefix), *documents()]
+        copies += [*programs(given.programs), *manuals(places), *completions()]
+        copies += [*tools(given.prefix), *page(), *documents()]
     listed = [it.to for it in copies] + [f"{it}/" for it in places.own_folders()]
     return [*copies, Copy(LISTED, "".join(f"{it}\n" for it in listed).encode())]
 
@@ -233,7 +248,6 @@ def places_of(given: argparse.Namespace) -> Places:
 
 def main() -> int:
     parser = argparse.ArgumentParser(description="Installs what `make` built, or removes it.")
-    parser.add_argument("--version", default="", help="the version for pkg-config")
     parser.add_argument("--prefix", required=True, help="an absolute path")
     parser.add_argument("--destdir", default="", help="a folder before the prefix")
     parser.add_argument("--programs", type=Path, help="a folder of other builds of the programs")

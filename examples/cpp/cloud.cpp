@@ -4,6 +4,7 @@
 //     cloud record ../cloud.toml ../cloud.stim > cloud.rec
 #include <algorithm>
 #include <cstdlib>
+#include <optional>
 
 #include "det/exec/application.h"
 
@@ -20,26 +21,32 @@ struct Finished {
   std::uint32_t cycles = 0;
 };
 
-struct Target {
-  std::int64_t x, y;
+/// The particle nearest to a target so far; of two that are as near, the first.
+struct Nearest {
+  std::uint64_t distance = ~std::uint64_t{0};
+  Particle particle{};
 
-  std::uint64_t DistanceTo(Particle const& particle) const {
-    return static_cast<std::uint64_t>(std::abs(particle.x - x)) +
-           static_cast<std::uint64_t>(std::abs(particle.y - y));
-  }
-  Particle const& NearestOf(Span<Particle> all) const {
-    return *std::min_element(all.begin(), all.end(), [this](auto& a, auto& b) {
-      return DistanceTo(a) < DistanceTo(b);
-    });
+  void Take(Nearest const& other) {
+    if (other.distance < distance) *this = other;
   }
 };
 
-/// Pass 0: a random step.
-class Wander final : public WorkerRunnable<Particle> {
+struct Target {
+  std::int64_t x, y;
+
+  Nearest NearestOf(Particle const& particle) const {
+    return {static_cast<std::uint64_t>(std::abs(particle.x - x)) +
+                static_cast<std::uint64_t>(std::abs(particle.y - y)),
+            particle};
+  }
+};
+
+/// A random step, by random numbers that the compiler inlines.
+class Wander {
  public:
   explicit Wander(std::int64_t spread) : spread_(spread) {}
 
-  void Run(Particle& particle, WorkerThread& thread) override {
+  void operator()(Particle& particle, InlineWorkerThread& thread) const {
     for (int tries = 0; tries < 8; ++tries) {
       std::int64_t const dx = Step(thread), dy = Step(thread);
       if (dx * dx + dy * dy > spread_ * spread_) continue;
@@ -50,7 +57,7 @@ class Wander final : public WorkerRunnable<Particle> {
   }
 
  private:
-  std::int64_t Step(WorkerThread& thread) const {
+  std::int64_t Step(InlineWorkerThread& thread) const {
     auto const span = static_cast<std::uint64_t>(2 * spread_ + 1);
     return static_cast<std::int64_t>(thread.GetRandom() % span) - spread_;
   }
@@ -83,18 +90,18 @@ class Cloud final : public Job<Particle, Finished> {
     if (cycle.Newest(2).value_or(0) < 0) return cycle.Refuse(1);
     if (reseed_ != 0 && cycle.Number() % reseed_ == 0) cycle.SetRandomSeed(cycle.GetRandom());
     Target const target{cycle.Newest(0).value_or(0), cycle.Newest(1).value_or(0)};
-    if (!cycle.Pass(Wander(spread_))) return;
-    Particle const leader = target.NearestOf(cycle.Elements());
-    bool const done = cycle.Pass([&leader](Particle& particle, WorkerThread& thread) {
+    auto const leader = NearestAfter(cycle, target, Wander(spread_));
+    if (!leader) return;
+    auto const pull = [to = leader->particle](Particle& particle, InlineWorkerThread& thread) {
       if (thread.GetRandom() % 8 == 0) return;
-      particle.x += Eighth(leader.x - particle.x);
-      particle.y += Eighth(leader.y - particle.y);
-    });
-    if (!done) return;
-    Particle const& nearest = target.NearestOf(cycle.Elements());
-    std::uint64_t const distance = target.DistanceTo(nearest);
+      particle.x += Eighth(to.x - particle.x);
+      particle.y += Eighth(to.y - particle.y);
+    };
+    auto const nearest = NearestAfter(cycle, target, pull);
+    if (!nearest) return;
+    auto const [distance, particle] = *nearest;
     if (distance > static_cast<std::uint64_t>(far_)) return cycle.Refuse(2);
-    cycle.Output().U32(nearest.number).I64(nearest.x).I64(nearest.y).U64(distance).U32(
+    cycle.Output().U32(particle.number).I64(particle.x).I64(particle.y).U64(distance).U32(
         ++cycle.State().cycles);
   }
 
@@ -103,6 +110,19 @@ class Cloud final : public Job<Particle, Finished> {
   }
 
  private:
+  /// Runs a pass, and finds the particle that is then nearest.
+  template <typename Move>
+  static std::optional<Nearest> NearestAfter(Cycle<Cloud>& cycle, Target const& target,
+                                             Move const& move) {
+    return cycle.Fold(
+        Nearest{},
+        [&target, &move](Particle& particle, InlineWorkerThread& thread, Nearest& part) {
+          move(particle, thread);
+          part.Take(target.NearestOf(particle));
+        },
+        [](Nearest& all, Nearest const& part) { all.Take(part); });
+  }
+
   std::int64_t count_, spread_, reseed_, far_;
 };
 

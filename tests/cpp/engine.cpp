@@ -198,6 +198,71 @@ void JobsOutOfRange() {
   }
 }
 
+/// A job whose elements are written in 0 to 8 bytes, each of its own length.
+class Ragged final : public Job<std::uint64_t> {
+ public:
+  explicit Ragged(std::size_t reserved, bool throws = false)
+      : reserved_(reserved), throws_(throws) {}
+  void Init(Start<Ragged>& start) const {
+    std::uint64_t number = 0;
+    for (std::uint64_t& element : start.Resize(5000)) element = number++;
+    start.ReserveElement(reserved_);
+  }
+  void Run(Cycle<Ragged>& cycle) const {
+    (void)cycle.Pass([throws = throws_](std::uint64_t& element, WorkerThread& thread) {
+      if (element % 3 != 0) element += thread.GetRandom() % 9;
+      if (throws && thread.Element() == 4321) element = kThrows;
+    });
+  }
+  static void Spell(std::uint64_t element, ElementSpelling& out) {
+    if (element == kThrows) throw std::runtime_error("spelling");
+    for (std::uint64_t k = 0; k < element % 9; ++k) out.U8(static_cast<std::uint8_t>(element + k));
+  }
+
+ private:
+  static constexpr std::uint64_t kThrows = 1000000;
+
+  std::size_t reserved_;
+  bool throws_;
+};
+
+/// The parts of two cycles of a job.
+std::vector<std::vector<std::uint8_t>> PartsOf(Ragged const& job, std::uint32_t workers,
+                                               std::uint8_t format, DeterministicErrc& code) {
+  KeptParts sink;
+  Engine<Ragged> engine(job, sink);
+  DetHeader header = HeaderOf(DetProfile{0, 1, 1});
+  header.format = format;
+  EngineOptions options;
+  options.workers = workers;
+  Result<void> done = engine.Open(header, options);
+  for (int cycle = 0; done && cycle < 2; ++cycle) {
+    done = engine.Begin(std::nullopt);
+    if (done) done = engine.End({});
+  }
+  if (!done) code = done.Error().code;
+  return sink.parts;
+}
+
+void SpelledInBlocks() {
+  for (std::uint8_t const format : {std::uint8_t{1}, std::uint8_t{2}}) {
+    DeterministicErrc code{};
+    // No element has more than 8 bytes. With 2 reserved, each is put by a call of its own.
+    auto const one_by_one = PartsOf(Ragged(2), 1, format, code);
+    CHECK(one_by_one.size() == 6);
+    for (std::uint32_t const workers : {1u, 4u, 16u}) {
+      CHECK(PartsOf(Ragged(8), workers, format, code) == one_by_one);
+      CHECK(PartsOf(Ragged(64), workers, format, code) == one_by_one);
+    }
+    CHECK(code == DeterministicErrc{});
+    for (std::uint32_t const workers : {1u, 4u}) {
+      CHECK(PartsOf(Ragged(8, true), workers, format, code).size() == 4);
+      CHECK(code == DeterministicErrc::kApplicationThrew);
+      code = {};
+    }
+  }
+}
+
 }  // namespace
 
 int main() {
@@ -206,6 +271,7 @@ int main() {
   check::Test("engine: draws of another container aren't counted", OtherContainers);
   check::Test("engine: a fault of the job ends the run without a frame", Faults);
   check::Test("engine: jobs that are out of range", JobsOutOfRange);
+  check::Test("engine: elements are the same in blocks and one by one", SpelledInBlocks);
   check::Test("engine: the first bad parameter", ParametersOneByOne);
   return check::Status();
 }

@@ -4,6 +4,7 @@
 #include <cstring>
 #include <new>
 
+#include "det/exec/file_input.h"
 #include "det/exec/recorder.h"
 #include "det/exec/spelling.h"
 #include "check.h"
@@ -218,10 +219,26 @@ void AllLaterRefused() {
   CHECK(RunWith(count, true, tried).whole && SameRecord());
 }
 
+/// Items of a file take memory only if they are longer than all before.
+void ItemsOfOneLength() {
+  granted = -1;
+  for (std::size_t length = 60000; length < 300000; length += 7777) {
+    FileInput file;
+    CHECK(file.Open("/dev/zero").IsDone() && file.Fill(length).IsDone());
+    long const before = requests;
+    for (int item = 0; item < 40; ++item) {
+      file.Drop(length);
+      CHECK(file.Fill(length).IsDone() && file.Count() >= length);
+    }
+    CHECK(requests == before);
+  }
+}
+
 }  // namespace
 
 int main() {
   check::Test("memory: one request refused, and the call made again", OneRefused);
   check::Test("memory: all requests refused from one on", AllLaterRefused);
+  check::Test("memory: items of one length in a file", ItemsOfOneLength);
   return check::Status();
 }

@@ -221,6 +221,79 @@ void InlinedWords() {
   }
 }
 
+void InlinedStreams() {
+  Script script({{}, {}, {}, {}});
+  DeterministicClient client = ClientInCycle(script, 2);
+  std::vector<std::uint64_t> elements(500);
+  Number(elements);
+  auto const stir = [](std::uint64_t& element, InlineWorkerThread& thread) {
+    for (std::uint64_t left = element % 5; left != 0; --left) {
+      element = element * 3 ^ thread.GetRandom();
+    }
+    if (thread.Element() == 77 || thread.Element() == 301) thread.Refuse(thread.Element());
+  };
+  CHECK(client.RunEach<std::uint64_t>(stir, elements));
+  CHECK(client.Refused()->element == 77 && client.Refused()->code == 77);
+  for (std::uint32_t i = 0; i < 500; ++i) {
+    auto stream = reference::StreamOf(reference::Key(0, 1, 0, i));
+    std::uint64_t element = i;
+    for (std::uint64_t left = i % 5; left != 0; --left) element = element * 3 ^ stream.Next();
+    CHECK(elements[i] == element && client.Draws()[i] == i % 5);
+  }
+}
+
+/// A value in which the order of elements and of parts shows.
+struct Chained {
+  std::uint64_t number = 7;
+  double sum = 0;
+
+  void Add(std::uint64_t element) {
+    number = number * 31 + element;
+    sum += 1.0 / static_cast<double>(element % 1000 + 1);
+  }
+  void Join(Chained const& part) {
+    number = number * 1000003 ^ part.number;
+    sum += part.sum;
+  }
+};
+
+/// The value of stirred elements, block by block: of 64 elements up to 4,096, else of 256.
+Chained ChainOf(std::vector<std::uint64_t> const& elements) {
+  std::size_t const length = elements.size() <= 4096 ? 64 : 256;
+  Chained all;
+  for (std::size_t begin = 0; begin < elements.size(); begin += length) {
+    Chained part;
+    for (std::size_t i = begin; i < std::min(begin + length, elements.size()); ++i) {
+      part.Add(elements[i]);
+    }
+    all.Join(part);
+  }
+  return all;
+}
+
+void FoldedPasses() {
+  for (std::size_t const count : kCounts) {
+    Wanted const wanted = Stirred(count, 1);
+    Chained const chain = ChainOf(wanted.elements);
+    for (std::uint32_t const workers : {1u, 2u, 16u}) {
+      Script script({{}, {}, {}, {}});
+      DeterministicClient client = ClientInCycle(script, workers);
+      client.SetRandomSeed(kSeed);
+      std::vector<std::uint64_t> elements(count);
+      Number(elements);
+      Stir stir;
+      auto const work = [&stir](std::uint64_t& element, WorkerThread& thread, Chained& part) {
+        stir.Run(element, thread);
+        part.Add(element);
+      };
+      auto const join = [](Chained& all, Chained const& part) { all.Join(part); };
+      auto const found = client.FoldEach<std::uint64_t>(Chained{}, work, join, elements);
+      CHECK(found && found->number == chain.number && found->sum == chain.sum);
+      CHECK(elements == wanted.elements && AreDraws(client, wanted.draws));
+    }
+  }
+}
+
 void TooManyElements() {
   Script script({});
   DeterministicClient client = ClientInCycle(script, 2);
@@ -289,9 +362,11 @@ int main() {
   check::Test("pools: a pass whose draws aren't counted", UncountedDraws);
   check::Test("pools: the least element that refuses", RefusingElements);
   check::Test("pools: an array of C", OverAnArrayOfC);
+  check::Test("pools: a value of all elements, in the order of their blocks", FoldedPasses);
   check::Test("pools: 1 to 64 workers", EveryNumberOfWorkers);
   check::Test("pools: eight passes of a cycle, and no ninth", EightPasses);
   check::Test("pools: called and inlined words are one stream", InlinedWords);
+  check::Test("pools: streams that are inlined from their start", InlinedStreams);
   check::Test("pools: 65,537 elements are refused, and stay", TooManyElements);
   check::Test("pools: a pass before the first cycle", PassesOfInit);
   check::Test("pools: a refused cycle keeps seed and own words, and can be run again",

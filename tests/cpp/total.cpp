@@ -118,6 +118,8 @@ void Stimuli() {
     CHECK(step.taken <= bytes.count);
     std::uint64_t number = 0;
     (void)det_stimulus_end(&stimulus, bytes.count, &number);
+    CHECK(det_stimulus_wanted(&stimulus, bytes.data(), bytes.count) <= DET_WANTED_LINE_FEED);
+    CHECK(det_stimulus_wanted(&stimulus, text.data(), text.count) <= DET_WANTED_LINE_FEED);
   }
 }
 
@@ -137,6 +139,7 @@ void ManifestsAndTexts() {
     det_text_status(static_cast<std::uint8_t>(chance()), &text);
     CHECK(text.len <= sizeof text.bytes);
     (void)det_manifest_is_job(manifest.get(), bytes.data(), bytes.count);
+    CHECK(det_manifest_toml_line(bytes.data(), bytes.count) <= bytes.count + 1);
     (void)det_manifest_read(manifest.get(), &fault, bytes.data(), bytes.count, true);
   }
 }

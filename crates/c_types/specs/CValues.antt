@@ -1,16 +1,14 @@
 -- The values that C passes, as the values that a record holds.
-use Rattle.std.specs.Prelude.{ℕ, ℤ, List, map, take, Option, None, Some, if◌then◌else◌}
-use Rattle.det_values.specs.declared.format.Format.TheVariants.{Two}
+use Rattle.std.specs.Prelude.{ℕ, List, map, take, Option, None, Some, if◌then◌else◌}
 use Rattle.det_values.specs.declared.frames.CycleInput.{CycleInput}
 use Rattle.det_values.specs.declared.frames.DrawnElement.{DrawnElement}
 use Rattle.det_values.specs.declared.frames.Outcome.{Outcome}
-use Rattle.det_values.specs.declared.frames.Outcome.TheVariants.{Finished, Refused}
+use Rattle.det_values.specs.declared.frames.Outcome.TheVariants.{Refused}
 use Rattle.det_values.specs.declared.frames.Frame.TheVariants as frames
-use Rattle.det_values.specs.Values.{SampleValue, EventSpecValue, ProfileValue, RefusedAtValue}
+use Rattle.det_values.specs.Values.{SampleValue, EventSpecValue, RefusedAtValue}
 use Rattle.record_grammar.specs.declared.item.Item.{Item}
 use Rattle.record_grammar.specs.declared.item.Item.TheVariants as items
 use Rattle.record_grammar.specs.Grammar.{policy_of, phase_of}
-use Rattle.c_types.specs.declared.profile.DetProfile.{DetProfile}
 use Rattle.c_types.specs.declared.profile.DetEvent.{DetEvent}
 use Rattle.c_types.specs.declared.cycle.DetSample.{DetSample}
 use Rattle.c_types.specs.declared.cycle.DetElement.{DetElement}
@@ -34,16 +32,6 @@ event_of e = record {
   policy = policy_of e.policy;
 }
 
-abbrev pub profile_of : DetProfile → List ℤ → List DetEvent → ProfileValue
-profile_of p params events = record {
-  format = Two;
-  job = p.job;
-  seed = p.seed;
-  cycle_time = p.cycle_time;
-  params = params;
-  events = map event_of events;
-}
-
 abbrev pub time_of : DetTime → Option ℕ
 time_of t = if t.known then Some t.time else None
 
@@ -60,9 +48,6 @@ place_of_refusal r = record {
 
 -- ---- the parts of a record
 
-abbrev pub header_of : DetProfile → List ℤ → List DetEvent → Item
-header_of profile params events = items.Header (profile_of profile params events)
-
 abbrev pub init_of : List DetElement → Item
 init_of elements = items.Frame (frames.Init (map bytes_of elements))
 
@@ -71,10 +56,6 @@ cycle_of time samples outcome = items.Frame (frames.Run (record {
   input = input_of time samples;
   outcome = outcome;
 }))
-
-abbrev pub finished_of : DetTime → List DetSample → List DetElement → List ℕ → Item
-finished_of time samples elements output =
-    cycle_of time samples (Finished (map drawn_of elements) output)
 
 abbrev pub refused_of : DetTime → List DetSample → DetRefusal → Item
 refused_of time samples refusal = cycle_of time samples (Refused (place_of_refusal refusal))

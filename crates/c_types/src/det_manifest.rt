@@ -115,7 +115,6 @@ impl DetNeeds {
 }
 
 impl DetManifestFault {
-    ghost use Rattle.std.specs.Prelude.{option_map};
     ghost use Rattle.c_types.specs.ManifestFaults.{unknown_key_of, fault_of};
 
     fn unknown_key(&self) -> Option<UnknownKey>

@@ -13,5 +13,5 @@ pub use cycle::{DetElement, DetRefusal, DetSample, DetTime};
 pub use det_manifest::{DetManifest, DetManifestFault, DetNeeds};
 pub use frame::{DetFrame, DetPlace, DetRecordFault};
 pub use profile::{DetEvent, DetHeader, DetProfile};
-pub use record::{DetRecord, format_number};
+pub use record::{DetRecord, format_from_number, format_number};
 pub use text::DetText;

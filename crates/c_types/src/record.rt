@@ -20,7 +20,8 @@ pub struct DetRecord {
     pub stage: u8,
 }
 
-fn format(number: u8) -> Format
+/// The format of a number: 1, or 2 for any other one.
+pub fn format_from_number(number: u8) -> Format
     ensures { result ≡ format_of number }
 {
     match number {
@@ -59,7 +60,7 @@ impl DetRecord {
         ensures { result ≡ place_of self.now }
     {
         let layout = Layout {
-            format: format(self.format),
+            format: format_from_number(self.format),
             events: self.events,
         };
         match self.stage {

@@ -8,8 +8,8 @@ use cli_answers::report_out_of_memory;
 use cli_words::program_words;
 use det_io::StdSink;
 use lane::child_processes::{ChildShelf, ProcessSpawner};
-use lane::lane_top;
-use lane_hints::write_hints;
+use lane::{lane_top, limit_of};
+use lane_hints::{Reasons, write_hints};
 use std::process::ExitCode;
 
 fn main(rt: HostRuntime) -> ExitCode {
@@ -19,12 +19,16 @@ fn main(rt: HostRuntime) -> ExitCode {
         return ExitCode::from(report_out_of_memory(&mut err).number());
     };
     let mut children = ChildShelf {
-        spawner: ProcessSpawner::new(&rt, alloc),
+        spawner: ProcessSpawner::new(&rt, alloc, rt.stderr(), limit_of(&words)),
     };
     let mut out = StdSink::new(rt.stdout());
     let status = lane_top(alloc, &words, &mut children, &mut out, &mut err);
     if err.failed().is_none() {
-        write_hints(&rt, &words, status, out.failed(), &mut err);
+        let reasons = Reasons {
+            failed: out.failed(),
+            late: children.spawner.late(),
+        };
+        write_hints(&rt, &words, status, reasons, &mut err);
     }
     ExitCode::from(status.number())
 }

@@ -1,5 +1,7 @@
 //! The exports.
-ghost use Rattle.std.specs.Prelude.{◌≡◌, ◌≢◌, ◌≤◌, ◌<◌, ◌↔◌, length, IsTrue, false};
+ghost use Rattle.std.specs.Prelude.{◌≡◌, ◌≢◌, ◌≤◌, ◌<◌, ◌+◌, ◌↔◌, length, IsTrue, false};
+ghost use Rattle.std.specs.Prelude.{Bool, Err};
+ghost use Rattle.manifest.specs.declared.manifest_fault.ManifestFault.TheVariants.{NotToml};
 ghost use Rattle.manifest.specs.Meaning.{named_manifest_of};
 ghost use Rattle.manifest.specs.Values.{NamedValue};
 ghost use Rattle.det_manifest_c.specs.Manifests.{StandsFor, IsManifest, IsFault};
@@ -9,6 +11,7 @@ use crate::fill::fill;
 use c_types::{DetManifest, DetManifestFault};
 use manifest::{ManifestError, read_named_manifest};
 use std::alloc::Global;
+use toml_line::toml_fault_line;
 
 /// Reads a manifest. Returns 0 if `manifest` is what the text says, 1 if `fault` is its first fault,
 /// and 2 for too little memory. Strictly, an unknown key is a fault.
@@ -36,6 +39,21 @@ pub extern "C" fn det_manifest_read(
             1
         }
         Err(ManifestError::OutOfMemory) => 2,
+    }
+}
+
+/// The line, counted from 1, at which a text stops being TOML. Returns 0 if the text is TOML, or if
+/// there is too little memory to find the line.
+#[tactic(auto, using(crate::proofs::Texts::no_toml))]
+#[unsafe(no_mangle)]
+pub extern "C" fn det_manifest_toml_line(alloc: Global, bytes: &[u8]) -> usize
+    ensures last { result ≤ 1 + length bytes.now }
+    ensures not_toml { 0 < result → length bytes.now ≤ 65536
+        → (strict : Bool) → named_manifest_of strict bytes.now ≡ Err NotToml }
+{
+    match toml_fault_line(alloc, bytes) {
+        Some(line) => line,
+        None => 0,
     }
 }
 

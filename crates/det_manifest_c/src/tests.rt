@@ -105,3 +105,13 @@ fn an_unknown_key_is_a_strict_fault(rt: HostRuntime) {
     assert_eq!(rt; (fault.reason, fault.key, fault.number), (6, 7, 0));
     assert_eq!(rt; (fault.text_len, fault.text[3]), (5, b'c'));
 }
+
+#[test]
+fn the_line_at_which_a_text_stops_being_toml(rt: HostRuntime) {
+    assert_eq!(rt;
+        det_manifest_toml_line(rt.alloc(), b"a = 1\nb = 2\nc = \n"),
+        3
+    );
+    assert_eq!(rt; det_manifest_toml_line(rt.alloc(), b"a = 1\nb = \xff\n"), 2);
+    assert_eq!(rt; det_manifest_toml_line(rt.alloc(), TEXT), 0);
+}

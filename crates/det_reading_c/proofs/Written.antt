@@ -1,11 +1,11 @@
 -- What was written is read.
-use Rattle.std.proofs.Common.{◌≡◌, ℕ, ◌≤◌, List, ◌++◌, sym, ap, subst, ◌∙◌, arith}
+use Rattle.std.proofs.Common.{◌≡◌, ℕ, List, ◌++◌, ap, subst, ◌∙◌, arith}
 use Rattle.det_values.specs.Values.{ProfileValue}
 use Rattle.record_grammar.specs.declared.place.Place.{Place}
 use Rattle.record_grammar.specs.declared.place.Place.TheVariants as places
 use Rattle.record_grammar.specs.declared.item.Item.{Item}
 use Rattle.record_grammar.specs.declared.item.Item.TheVariants as items
-use Rattle.record_grammar.specs.Read.{Read, Got, ◌>>=◌}
+use Rattle.record_grammar.specs.Read.{Read, Got}
 use Rattle.record_grammar.specs.Grammar.{profile_at, item_at}
 use Rattle.record_grammar.specs.Spelling.{IsHeader, spelled_header}
 use Rattle.record_grammar.specs.Laws.{MayStand}

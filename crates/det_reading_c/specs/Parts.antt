@@ -29,6 +29,11 @@ abbrev pub IsFirst : {X Y : Type 0} → (X → Y × List ℕ) → Option X → R
 IsFirst view (Some x) read = read ≡ Got (view x)
 IsFirst {Y = Y} view None read = (y : Y × List ℕ) → read ≡ Got y → ⊥
 
+-- the bytes after the first value, if the grammar reads one
+abbrev pub IsAfterFirst : {X Y : Type 0} → (X → List ℕ) → Option X → Read Y → Type 0
+IsAfterFirst {Y = Y} rest (Some x) read = (y : Y) × (read ≡ Got (y, rest x))
+IsAfterFirst {Y = Y} rest None read = (y : Y × List ℕ) → read ≡ Got y → ⊥
+
 -- what C lends to a call that reads an element: the offset and the element
 pub record ElementCall : Type 0 where
   pub at : ℕ

@@ -1,6 +1,5 @@
 //! The export that compares two frames.
 ghost use Rattle.std.specs.Prelude.{◌≡◌};
-ghost use Rattle.c_types.specs.Places.{format_of};
 ghost use Rattle.det_reading_c.specs.Comparisons.{frame_place, IsWholeFrame, IsPlaceOf};
 ghost use Rattle.det_reading_c.specs.Comparisons.{ComparesFrames, layout_with};
 

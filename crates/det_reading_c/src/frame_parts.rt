@@ -73,7 +73,7 @@ fn raw(len: usize, bytes: &[u8]) -> Result<(&[u8], &[u8]), Stop>
 
 /// The bytes of the first element, and the rest.
 #[tactic(auto, unfolding(record_grammar::specs::Grammar::string_at))]
-fn element_bytes(bytes: &[u8]) -> Result<(&[u8], &[u8]), Stop>
+pub(crate) fn element_bytes(bytes: &[u8]) -> Result<(&[u8], &[u8]), Stop>
     ensures gives { Gives (λ x. (x.0.now, x.1.now)) result (element_at bytes.now) }
     ensures short { IfOk result (λ x. length x.0.now ≤ 64) }
 {
@@ -97,7 +97,7 @@ fn drawn_element(used: &[u8], draws: u32) -> DetElement
 }
 
 /// Four bytes as a number, and the rest.
-fn any_u32(bytes: &[u8]) -> Option<(u32, &[u8])>
+pub(crate) fn any_u32(bytes: &[u8]) -> Option<(u32, &[u8])>
     ensures { IsFirst (λ x. (x.0, x.1.now)) result (number 4 0 4294967295 bytes.now) }
 {
     if bytes.len() < 4 {

@@ -11,5 +11,6 @@ mod header;
 mod number;
 mod reading;
 pub mod reading_c_laws;
+mod spelled_elements;
 #[cfg(test)]
 mod tests;

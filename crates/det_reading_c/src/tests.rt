@@ -2,6 +2,7 @@ use crate::export::*;
 use crate::frame_comparison::*;
 use crate::frame_parts::*;
 use crate::reading::*;
+use crate::spelled_elements::det_are_elements;
 use c_types::*;
 use std::test::*;
 
@@ -184,4 +185,16 @@ fn two_runs_differ_in_the_output(rt: HostRuntime) -> Result<(), Fail> {
     let answer = det_frame_difference(2, 1, 3, run, &OTHER_RUN, &mut place);
     assert_eq!(rt; (answer, place.what, place.number), (1, 6, 1));
     Ok(())
+}
+
+#[test]
+fn elements_one_after_another(rt: HostRuntime) {
+    let of_format_1 = [0, 1, 7, 0, 0];
+    let of_format_2 = [0, 1, 7, 0, 0, 0, 5, 0, 0, 0, 0, 1, 0];
+    assert!(rt; det_are_elements(1, 2, &of_format_1));
+    assert!(rt; det_are_elements(2, 2, &of_format_2));
+    assert!(rt; !det_are_elements(2, 1, &of_format_2));
+    assert!(rt; !det_are_elements(2, 3, &of_format_2));
+    assert!(rt; !det_are_elements(2, 2, &of_format_1));
+    assert!(rt; det_are_elements(2, 0, &[]));
 }

@@ -31,11 +31,6 @@ use Rattle.det_record_c.proofs.Putting.{puts_then, puts_as}
 
 -- ---- elements
 
-pub drawn_one : (format : Format) (at draws end : ℕ) (bytes old new : List ℕ) → format ≡ One
-    → Puts at (spelled_element bytes) old end new → Puts at (spelled_drawn format (element_in format bytes draws)) old end new
-drawn_one format at draws end bytes old new is p =
-    subst (λ (f : Format). Puts at (spelled_drawn f (element_in f bytes draws)) old end new) (sym is) p
-
 two_spelled : (bytes : List ℕ) (draws : ℕ) → spelled_element bytes ++ spelled_u32 draws ≡ spelled_drawn Two (element_in Two bytes draws)
 unfolding flat.spelled_drawn
 two_spelled bytes draws = append_assoc (spelled_u16 (length bytes)) bytes (spelled_u32 draws)

@@ -2,7 +2,7 @@
 use Rattle.std.proofs.Common.{◌≡◌, ◌==◌, ℕ, ◌+◌, ◌<◌, ◌≤◌, Bool, true, false, cond, List, [], ◌∷◌, ◌++◌, length, take, refl, sym, ap, subst, ◌∙◌, append_assoc, arith, length-append}
 use Rattle.std.specs.List.{flat_map}
 use Rattle.std.proofs.lemmas.List.{append-nil}
-use Rattle.std.proofs.lemmas.List.Elements.{All-push, All-nil}
+use Rattle.std.proofs.lemmas.List.Elements.{All-push, All-nil, All-append}
 use Rattle.std.proofs.lemmas.Grind.{flat_map-append}
 use Rattle.det_values.specs.declared.frames.CycleInput.{CycleInput}
 use Rattle.det_values.specs.declared.frames.DrawnElement.{DrawnElement}
@@ -22,7 +22,7 @@ use Rattle.det_record_c.specs.declared.run.DetRun.{DetRun}
 use Rattle.det_record_c.specs.Items.{cycle_in}
 use Rattle.det_record_c.specs.Puts.{Puts}
 use Rattle.det_record_c.specs.Parts.{CallState, spelling_in, HasFields}
-use Rattle.det_record_c.specs.Runs.{opening_of, closing_of, IsBeforeCycle, TakesCycle, Opened, RunState, IsOpened, IsElementPut, CanClose, IsClosed}
+use Rattle.det_record_c.specs.Runs.{opening_of, closing_of, IsBeforeCycle, TakesCycle, Opened, RunState, IsOpened, IsElementPut, AreElementsPut, CanClose, IsClosed}
 use Rattle.det_record_c.specs.Statements.{CycleInCalls}
 use Rattle.det_record_c.proofs.Written.{at_place, spelling_is, may_stand, written_behind, puts_front}
 use Rattle.det_record_c.proofs.Fields.{cycle_spelled}
@@ -122,6 +122,34 @@ is_element_put element end left old new drawn one is puts small fits w =
       at_state = ap (λ (x : DetRun). x.state) is;
       left = ap (λ (x : DetRun). x.left + 1) is ∙ one;
       spelling = front;
+    }
+
+pub are_elements_put : (count left : ℕ) (old new : DetRun) → left + count ≡ old.left → new ≡ record { state = old.state; left = left }
+    → AreElementsPut count old new
+are_elements_put count left old new one is =
+    let format = format_of old.state.format in
+    let run : DetRun = record { state = old.state; left = left } in
+    record {
+      opened = λ input elements more bytes spelled o counted s.
+          let n : length (elements ++ more) ≡ length elements + length more = length-append elements more in
+          let count : length elements + old.left ≡ length (elements ++ more) + left = omega (arith, n, counted, one) in
+          let opened : Opened run input (elements ++ more) (bytes ++ spelled) = record {
+            follows = o.follows;
+            input_fields = o.input_fields;
+            few = omega (arith, o.few, count);
+            element_fields = All-append (IsDrawn format) elements more o.element_fields s.fields;
+            spelling =
+                ap (λ (xs : List ℕ). bytes ++ xs) s.spelling
+                ∙ ap (λ (xs : List ℕ). xs ++ flat_map (spelled_drawn format) more) o.spelling
+                ∙ append_assoc (opening_of input (length elements + old.left)) (flat_map (spelled_drawn format) elements)
+                (flat_map (spelled_drawn format) more)
+                ∙ ap (λ (xs : List ℕ). opening_of input (length elements + old.left) ++ xs)
+                (sym (flat_map-append (spelled_drawn format) elements more))
+                ∙ ap (λ (k : ℕ). opening_of input k ++ flat_map (spelled_drawn format) (elements ++ more)) count;
+          } in
+          subst (λ (x : DetRun). Opened x input (elements ++ more) (bytes ++ spelled)) (sym is) opened;
+      at_state = ap (λ (x : DetRun). x.state) is;
+      left = ap (λ (x : DetRun). x.left + count) is ∙ one;
     }
 
 -- ---- closing

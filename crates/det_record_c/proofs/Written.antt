@@ -101,10 +101,6 @@ pub counted_fit : (bytes old new room : List ℕ) (end : ℕ) → Puts 0 bytes o
     → length room < 18446744073709551615 → length bytes ≤ length room
 counted_fit bytes old new room end p le few = omega (arith, p.counted, le, few)
 
-pub counted_over : (bytes old new room : List ℕ) (end : ℕ) → Puts 0 bytes old end new → length room < end
-    → length bytes ≤ length room → ⊥
-counted_over bytes old new room end p lt fits = omega (arith, p.counted, lt, fits)
-
 pub is_added : (item : Item) (old new : CallState) (end : ℕ) → CanFollow (place_of old.state) item → HasFields old.state item
     → place_of new.state ≡ after (place_of old.state) item → Puts 0 (spelling_in old.state item) old.out end new.out
     → length old.out ≤ 18446744073709551615 → length (spelling_in old.state item) ≤ length old.out → new.written ≡ end
@@ -122,9 +118,3 @@ is_added item old new end can fields place puts few fits w =
         spelling = front;
       },
     )
-
--- it doesn't fit either where its spelling in any place doesn't
-pub does_not_fit : (r : DetRecord) (item : Item) (out : List ℕ) → CanFollow (place_of r) item
-    → (length (spelling_in r item) ≤ length out → ⊥) → Fits r item out → ⊥
-does_not_fit r item out can over fits =
-    over (subst (λ (xs : List ℕ). length xs ≤ length out) (spelling_is r item can) fits)

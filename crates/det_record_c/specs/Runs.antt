@@ -16,6 +16,7 @@ use Rattle.c_types.specs.declared.record.DetRecord.{DetRecord}
 use Rattle.c_types.specs.declared.cycle.DetSample.{DetSample}
 use Rattle.c_types.specs.Places.{format_of, place_of}
 use Rattle.c_types.specs.Ranges.{AreSoundSamples}
+use Rattle.c_types.specs.Elements.{SpellElements}
 use Rattle.det_record_c.specs.declared.run.DetRun.{DetRun}
 use Rattle.det_record_c.specs.Items.{cycle_in}
 use Rattle.det_record_c.specs.Parts.{Written, CallState, PutsFront}
@@ -74,6 +75,15 @@ pub record IsElementPut (element : DrawnElement) (old new : RunState) : Type 0 w
   pub left : new.run.left + 1 ≡ old.run.left
   pub spelling : PutsFront (spelled_drawn (format_of old.run.state.format) element) old.out
       new.out new.written
+
+-- C put `count` elements itself, as these bytes, after those before them
+pub record AreElementsPut (count : ℕ) (old new : DetRun) : Type 0 where
+  pub opened : (input : CycleInput) (elements more : List DrawnElement) (bytes spelled : List ℕ)
+      → Opened old input elements bytes → length more ≡ count
+      → SpellElements (format_of old.state.format) more spelled
+      → Opened new input (elements ++ more) (bytes ++ spelled)
+  pub at_state : new.state ≡ old.state
+  pub left : new.left + count ≡ old.left
 
 -- a cycle may come, all elements are put, and the record is as it was when the cycle was opened
 pub record CanClose (run : DetRun) (r : DetRecord) : Type 0 where

@@ -8,14 +8,14 @@ ghost use Rattle.det_record_c.specs.Items.{element_in};
 ghost use Rattle.det_record_c.specs.Parts.{call_state};
 ghost use Rattle.det_record_c.specs.Runs.{TakesCycle, IsSoundOpening, opening_of, closing_of};
 ghost use Rattle.det_record_c.specs.Runs.{run_state, IsOpened, IsElementPut, CanClose, IsClosed};
+ghost use Rattle.det_record_c.specs.Runs.{AreElementsPut};
 
 use crate::cause::Cause;
 use crate::part::takes_cycle;
 use crate::put::fits;
 use crate::put_frame::{put_closing, put_drawn, put_opening};
 use crate::ranges::{is_sound_opening, is_sound_output};
-use crate::write_part::format;
-use c_types::{DetRecord, DetSample, DetTime};
+use c_types::{DetRecord, DetSample, DetTime, format_from_number};
 
 /// How far a cycle is written: the record when the cycle was opened, and the number of elements
 /// that are left to put.
@@ -111,13 +111,25 @@ pub(crate) fn put_next(
     if bytes.len() > 64 {
         return Err(Cause::OutOfRange);
     }
-    let kept = format(run.state.format);
+    let kept = format_from_number(run.state.format);
     let needed = put_drawn(&mut [], 0, kept, bytes, draws);
     if !fits(needed, out) {
         return Err(Cause::NoRoom);
     }
     *written = put_drawn(out, 0, kept, bytes, draws);
     run.left -= 1;
+    Ok(())
+}
+
+/// Passes over elements that C put itself.
+pub(crate) fn pass_elements(run: &mut DetRun, count: u32) -> Result<(), Cause>
+    ensures { EndsAs result (count ≤ run.old.left) (Unit {0}) (Unit {0})
+        (AreElementsPut count run.old run.new) (run.new ≡ run.old) }
+{
+    if run.left < count {
+        return Err(Cause::Misplaced);
+    }
+    run.left -= count;
     Ok(())
 }
 

@@ -1,5 +1,5 @@
 //! The exports that write a finished cycle in several calls: it is opened, its elements are put one
-//! by one, and it is closed. The bytes of all these calls, in order, are the frame that
+//! by one or by C itself, and it is closed. The bytes of all these calls, in order, are the frame that
 //! `det_record_finished` writes of the same values. Answers are those of the other exports.
 ghost use Rattle.std.specs.Prelude.{◌≡◌, ◌≤◌, length};
 ghost use Rattle.record_grammar.specs.Spelling.{spelled_drawn};
@@ -10,9 +10,10 @@ ghost use Rattle.det_record_c.specs.Items.{element_in};
 ghost use Rattle.det_record_c.specs.Parts.{call_state};
 ghost use Rattle.det_record_c.specs.Runs.{TakesCycle, IsSoundOpening, opening_of, closing_of};
 ghost use Rattle.det_record_c.specs.Runs.{run_state, IsOpened, IsElementPut, CanClose, IsClosed};
+ghost use Rattle.det_record_c.specs.Runs.{AreElementsPut};
 
 use crate::cause::answer;
-use crate::run::{DetRun, Opening, close_cycle, open_cycle, put_next};
+use crate::run::{DetRun, Opening, close_cycle, open_cycle, pass_elements, put_next};
 use c_types::{DetRecord, DetSample, DetTime};
 
 /// Opens a cycle that finished with this number of elements. The record stays where it is.
@@ -58,6 +59,17 @@ pub extern "C" fn det_run_element(
         (run_state run.new out.new written.new ≡ run_state run.old out.old written.old) }
 {
     answer(put_next(run, bytes, draws, out, written))
+}
+
+/// Passes over the next `count` elements of a cycle, which C put itself, after what was written
+/// before. It is misplaced if fewer are left to put. Whether bytes are the spelling of so many
+/// elements is what `det_are_elements` says.
+#[unsafe(no_mangle)]
+pub extern "C" fn det_run_elements(run: &mut DetRun, count: u32) -> u8
+    ensures { ReportsCall result (count ≤ run.old.left) (Unit {0}) (Unit {0})
+        (AreElementsPut count run.old run.new) (run.new ≡ run.old) }
+{
+    answer(pass_elements(run, count))
 }
 
 /// Closes a cycle, and moves the record to the place after it. It is misplaced if an element is

@@ -155,8 +155,9 @@ fn put_run(state: &mut DetRecord, all: &mut Vec<u8>) -> Result<(), Fail> {
     keep(all, answer, &out, written)?;
     let answer = det_run_element(&mut run, &[10, 11], 5, &mut out, &mut written);
     keep(all, answer, &out, written)?;
-    let answer = det_run_element(&mut run, &[], 256, &mut out, &mut written);
-    keep(all, answer, &out, written)?;
+    let element_without_bytes = [0, 0];
+    let answer = det_run_elements(&mut run, 1);
+    keep(all, answer, &element_without_bytes, 2)?;
     let answer = det_run_close(&run, state, &[9], &mut out, &mut written);
     keep(all, answer, &out, written)
 }

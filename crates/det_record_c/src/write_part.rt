@@ -1,7 +1,7 @@
 //! Writes a part where C says.
 ghost use Rattle.std.specs.Prelude.{◌≡◌};
 ghost use Rattle.record_grammar.specs.Places.{CanFollow};
-ghost use Rattle.c_types.specs.Places.{format_of, place_of};
+ghost use Rattle.c_types.specs.Places.{place_of};
 ghost use Rattle.det_record_c.specs.Answers.{IsChecked, IsWritten, EndsAs};
 ghost use Rattle.det_record_c.specs.Parts.{call_state, item_in, IsSound, spelling_in, HasFields};
 ghost use Rattle.det_record_c.specs.Parts.{Fits, IsAdded, Reports};
@@ -13,18 +13,7 @@ use crate::put::{fits, put_u8};
 use crate::put_frame::{put_finished, put_init, put_refused};
 use crate::put_header::put_header;
 use crate::ranges::is_sound;
-use c_types::DetRecord;
-use det_values::Format;
-
-/// The format of a number: 1, or 2 for any other one.
-pub(crate) fn format(number: u8) -> Format
-    ensures { result ≡ format_of number }
-{
-    match number {
-        1 => Format::One,
-        _ => Format::Two,
-    }
-}
+use c_types::{DetRecord, format_from_number};
 
 /// The place is checked first, and then the values.
 fn check(state: &DetRecord, part: &Part<'_>) -> Result<(), Cause>
@@ -49,7 +38,7 @@ fn put_part(out: &mut [u8], state: &DetRecord, part: &Part<'_>) -> usize
         out.new }
     ensures fields { HasFields state.now (item_in state.now part.now) }
 {
-    let kept = format(state.format);
+    let kept = format_from_number(state.format);
     match *part {
         Part::Header {
             profile,

@@ -1,10 +1,11 @@
 //! The place of a stimulus, which is all that is kept of it between two calls.
-ghost use Rattle.std.specs.Prelude.{◌≡◌, ◌<◌, ◌+◌, ◌^◌, ◌↔◌, IsTrue, length};
+ghost use Rattle.std.specs.Prelude.{◌≡◌, ◌<◌, ◌≤◌, ◌+◌, ◌^◌, ◌↔◌, IsTrue, true, length};
 
 use crate::found::Found;
-use stimulus::LinePlace;
+use crate::wanted::{Wish, wanted_between, wanted_first, wanted_inside};
 use stimulus::first_line::{FirstLine, first_line};
 use stimulus::parse_line::{Line, parse_line};
+use stimulus::{LinePlace, Wanted};
 
 /// How far a stimulus was read: its number of good lines, of its blocks, and of the samples of the
 /// last one. The stage is 0 before the first line, 1 after it and 2 in a block. It is any other
@@ -24,6 +25,7 @@ impl DetStimulus {
     ghost use Rattle.stimulus.specs.declared.line_place.LinePlace.TheVariants as places;
     ghost use Rattle.det_stimulus_c.specs.Taken.{place_of, HasTaken};
     ghost use Rattle.det_stimulus_c.specs.Steps.{FoundIs, Stays, GoesOn, TakenIs};
+    ghost use Rattle.det_stimulus_c.specs.Wants.{IsGoodLine, IsWish, may_want};
 
     fn place(&self) -> LinePlace
         ensures { result ≡ place_of self.now }
@@ -119,6 +121,64 @@ impl DetStimulus {
                 None => Found::Bad,
                 Some(line) => self.take_line(line, end + 1),
             },
+        }
+    }
+
+    /// Whether a line, without its LF, is good here.
+    fn is_good(&self, line: &[u8]) -> bool
+        ensures { IsTrue result → IsGoodLine self.now line.now }
+    {
+        let place = self.place();
+        match parse_line(self.events, line) {
+            None => false,
+            Some(line) => match place.after(&line) {
+                None => false,
+                Some(_) => true,
+            },
+        }
+    }
+
+    /// What may come in place of a line, without its LF, that isn't good here.
+    fn wanted_for(&self, line: &[u8]) -> Wanted
+        requires { length line.now ≤ 128 }
+        ensures { may_want (place_of self.now) result ≡ true }
+    {
+        match self.place() {
+            LinePlace::First => wanted_first(line),
+            LinePlace::Between => wanted_between(line),
+            LinePlace::Inside { .. } => wanted_inside(self.events, line),
+            LinePlace::Ended => Wanted::NoMore,
+        }
+    }
+
+    /// What may come in place of a line that is too long.
+    fn wanted_for_long(&self) -> Wanted
+        ensures { may_want (place_of self.now) result ≡ true }
+    {
+        match self.place() {
+            LinePlace::First | LinePlace::Between | LinePlace::Inside { .. } => Wanted::ShortLine,
+            LinePlace::Ended => Wanted::NoMore,
+        }
+    }
+
+    /// What is wanted where the bytes begin. At most 129 bytes are looked at.
+    pub(crate) fn wish(&self, bytes: &[u8]) -> Wish
+        ensures { IsWish result self.now bytes.now }
+    {
+        match first_line(bytes) {
+            FirstLine::TooLong => Wish::Other(self.wanted_for_long()),
+            FirstLine::Open => {
+                if self.is_good(bytes) {
+                    return Wish::LineFeed;
+                }
+                Wish::Other(self.wanted_for(bytes))
+            }
+            FirstLine::Whole(end) => {
+                if self.is_good(&bytes[..end]) {
+                    return Wish::Nothing;
+                }
+                Wish::Other(self.wanted_for(&bytes[..end]))
+            }
         }
     }
 }

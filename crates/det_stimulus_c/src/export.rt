@@ -1,9 +1,10 @@
 //! The exports. C shows each step the bytes that no step before it took: at least 129 of them, or
 //! all that are left.
-ghost use Rattle.std.specs.Prelude.{◌≡◌, ℕ, ◌++◌, List, [], length};
+ghost use Rattle.std.specs.Prelude.{◌≡◌, ◌≤◌, ℕ, ◌++◌, List, [], length};
 ghost use Rattle.stimulus.specs.Reading.{good_lines, ending};
 ghost use Rattle.det_stimulus_c.specs.Taken.{HasTaken};
 ghost use Rattle.det_stimulus_c.specs.Steps.{IsStep, EndIs};
+ghost use Rattle.det_stimulus_c.specs.Wants.{IsWanted};
 
 use crate::det_stimulus::DetStimulus;
 use crate::found::DetStimulusStep;
@@ -52,4 +53,14 @@ pub extern "C" fn det_stimulus_end(stimulus: &DetStimulus, left: usize, line: &m
     }
     *line = stimulus.next_line();
     false
+}
+
+/// What may come where the bytes begin, by the hints of `det`: 0 if a good line begins there, 11 if
+/// all bytes are a good line that lacks its LF, else 1 to 10. At most 129 bytes are looked at.
+#[unsafe(no_mangle)]
+pub extern "C" fn det_stimulus_wanted(stimulus: &DetStimulus, bytes: &[u8]) -> u8
+    ensures range { result ≤ 11 }
+    ensures wanted { IsWanted result stimulus.now bytes.now }
+{
+    stimulus.wish(bytes).number()
 }

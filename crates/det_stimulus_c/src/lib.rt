@@ -7,3 +7,4 @@ mod export;
 mod found;
 #[cfg(test)]
 mod tests;
+mod wanted;

@@ -98,3 +98,32 @@ fn a_part_of_a_line_needs_more(rt: HostRuntime) {
     assert_eq!(rt; det_stimulus_step(&mut stimulus, b"stim 1", &mut step), 0);
     assert_eq!(rt; (stimulus.lines, step.taken), (0, 0));
 }
+
+/// What is wanted at some bytes after `stim 1`, and in a block.
+fn wanted_after(lines: &[&[u8]], bytes: &[u8]) -> u8 {
+    let mut stimulus = begun(2);
+    let mut step = no_step();
+    for line in lines {
+        det_stimulus_step(&mut stimulus, *line, &mut step);
+    }
+    det_stimulus_wanted(&stimulus, bytes)
+}
+
+#[test]
+fn what_is_wanted_in_place_of_a_bad_line(rt: HostRuntime) {
+    let first: [&[u8]; 1] = [b"stim 1\n"];
+    let block: [&[u8]; 2] = [b"stim 1\n", b"cycle 5\n"];
+    let end: [&[u8]; 2] = [b"stim 1\n", b"terminate\n"];
+    assert_eq!(rt; wanted_after(&block, b"sample 1 -2\n"), 0);
+    assert_eq!(rt; wanted_after(&[], b"cycle 5\n"), 1);
+    assert_eq!(rt; wanted_after(&first, b"sample 1 -2\n"), 2);
+    assert_eq!(rt; wanted_after(&block, b""), 3);
+    assert_eq!(rt; wanted_after(&block, b"sample 1\n"), 3);
+    assert_eq!(rt; wanted_after(&end, b"\n"), 4);
+    assert_eq!(rt; wanted_after(&block, &[b'x'; 129]), 5);
+    assert_eq!(rt; wanted_after(&block, b"terminate\r\n"), 6);
+    assert_eq!(rt; wanted_after(&first, b"cycle 18446744073709551616\n"), 7);
+    assert_eq!(rt; wanted_after(&block, b"sample 2 5\n"), 8);
+    assert_eq!(rt; wanted_after(&block, b"sample 1 1000000000001\n"), 9);
+    assert_eq!(rt; wanted_after(&block, b"terminate"), 11);
+}

@@ -1,5 +1,5 @@
 -- What C's counters see of a run is what the audience that they stand for sees of it.
-use Rattle.std.proofs.Common.{◌≡◌, ℕ, ◌+◌, ◌<◌, ◌==◌, List, [], ◌∷◌, Bool, true, false, cond, Option, Some, None, refl, sym, ap, ◌∙◌}
+use Rattle.std.proofs.Common.{◌≡◌, ℕ, ◌+◌, ◌<◌, ◌==◌, List, [], ◌∷◌, Bool, true, false, cond, Some, None, refl, sym, ap, ◌∙◌}
 use Rattle.std.proofs.Common.{arith, subst}
 use Rattle.std.specs.List.{count_by}
 use Rattle.std.proofs.lemmas.Bool.Decides.{nat_tests}
@@ -10,15 +10,15 @@ use Rattle.det_values.specs.declared.frames.Outcome.{Outcome}
 use Rattle.det_values.specs.declared.frames.Outcome.TheVariants.{Finished, Refused}
 use Rattle.c_types.specs.declared.frame.DetFrame.{DetFrame}
 use Rattle.c_types.specs.CValues.{time_of, place_of_refusal}
-use Rattle.probes.specs.declared.probe.ProbeStep.TheVariants.{Stay, Leave}
+use Rattle.probes.specs.declared.probe.ProbeStep.TheVariants.{Stay}
 use Rattle.probes.specs.Reports.{ProbeLife, AudienceState, Sees}
 use Rattle.probes.specs.Shows.{Shows}
 use Rattle.probes.specs.Texts.{count_text, gap_text, refusal_text}
 use Rattle.probes.specs.Shipped.{counted, refusal_of, outcome_refused, outcome_finished, is_refused, is_finished}
-use Rattle.probes.specs.Shipped.{count_life, gap_life, refusal_life, refusal_after, gap_between, greater, greatest_gap}
+use Rattle.probes.specs.Shipped.{count_life, gap_life, refusal_life, gap_between, greater, greatest_gap}
 use Rattle.probes.proofs.Lives.{gap_more, refused_seen, finished_seen, refusal_told}
 use Rattle.det_verdict_c.specs.declared.reports.DetReports.{DetReports}
-use Rattle.det_verdict_c.specs.Reports.{audience_of, last_of, gap_of, refusal_in, IsViewOf}
+use Rattle.det_verdict_c.specs.Reports.{audience_of, last_of, gap_of, IsViewOf}
 use Rattle.det_verdict_c.proofs.Probes.{state, shown-leaving, shown-after, shown-staying}
 
 -- ---- the outcome of a run

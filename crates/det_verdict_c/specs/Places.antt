@@ -1,5 +1,5 @@
 -- The first difference that a place of C stands for.
-use Rattle.std.specs.Prelude.{ℕ, ◌==◌, Option, Some, None, if◌then◌else◌}
+use Rattle.std.specs.Prelude.{◌==◌, Option, Some, None, if◌then◌else◌}
 use Rattle.copies.specs.declared.difference.Difference.{Difference}
 use Rattle.copies.specs.declared.difference.Difference.TheVariants.{Header, Kind, Time}
 use Rattle.copies.specs.declared.difference.Difference.TheVariants.{Samples, Result, Element}

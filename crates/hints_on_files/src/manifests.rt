@@ -1,5 +1,5 @@
 //! Hints on manifests.
-ghost use Rattle.std.specs.Prelude.{◌≡◌, ◌≤◌, ◌+◌, length, true, IfSome};
+ghost use Rattle.std.specs.Prelude.{◌≡◌, ◌≤◌, true, IfSome};
 ghost use Rattle.hints_on_files.specs.Kinds.{is_of_manifest};
 
 use crate::hint::Hint;
@@ -9,28 +9,7 @@ use det_io::{Shelf, Stopped, read_limited};
 use manifest::{Key, MOST_BYTES, ManifestFault, read_manifest};
 use run_setup::read_setup;
 use std::alloc::Global;
-
-/// The line, counted from 1, at which bytes stop being TOML. None if they are TOML, or memory runs
-/// out.
-fn toml_fault_line(alloc: Global, bytes: &[u8]) -> Option<usize>
-    ensures first { IfSome result (λ line. 1 ≤ line) }
-    ensures last { IfSome result (λ line. line ≤ 1 + length bytes.now) }
-{
-    let place = match std::str::from_utf8(bytes) {
-        Err(error) => error.valid_up_to(),
-        Ok(text) => match toml::table_from_str(alloc, text) {
-            Ok(_) => return None,
-            Err(error) => error.span()?.start,
-        },
-    };
-    let mut line: usize = 1;
-    for byte in bytes.get(..place)? {
-        if *byte == b'\n' {
-            line = line.saturating_add(1);
-        }
-    }
-    Some(line)
-}
+use toml_line::toml_fault_line;
 
 /// The hint on the manifest under a name, which is refused for this cause. Its text is read again
 /// where the cause doesn't have the place.

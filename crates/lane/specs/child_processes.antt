@@ -1,4 +1,6 @@
 pub mod ChildShelves
+pub mod ErrorLines
+pub mod ErrorTexts
 pub mod MemSpawner
 pub mod ProcessSpawner
 pub mod Processes

@@ -1,15 +1,19 @@
 //! Child processes, and their outputs as the slots of a shelf.
 //!
 //! `Spawner` is the trait of what starts children, `ProcessSpawner` starts real ones, and
-//! `MemSpawner` replays scripts in tests.
+//! `MemSpawner` replays scripts in tests. `ErrorLine` makes lines of what a child writes to its
+//! standard error.
 
 mod child_shelf;
+mod error_line;
+mod error_pipes;
 mod mem_spawner;
 mod process_spawner;
 mod spawn_failed;
 mod spawner;
 
 pub use child_shelf::ChildShelf;
+pub use error_line::ErrorLine;
 pub use mem_spawner::{MemSpawner, Script, Scripts};
 pub use process_spawner::ProcessSpawner;
 pub use spawn_failed::SpawnFailed;

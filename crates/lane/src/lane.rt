@@ -1,7 +1,9 @@
 //! `Lane`, a program that is run in several copies, and the arguments of its children.
-ghost use Rattle.std.specs.Prelude.{◌≡◌, ◌≤◌, map, IfOk};
+ghost use Rattle.std.specs.Prelude.{◌≡◌, ◌≤◌, ◌++◌, map, IfOk, OnOk};
+ghost use Rattle.cli_words.specs.Names.{texts};
 ghost use Rattle.lane.specs.child_processes.Spawners.{words_of};
 
+use crate::lane_options::LaneOptions;
 use itoa::Buffer;
 use std::alloc::{AllocError, Global};
 
@@ -13,6 +15,7 @@ pub struct Lane<'a> {
     pub copies: u32,
     pub manifest: &'a str,
     pub stimulus: &'a str,
+    pub options: LaneOptions<'a>,
     ghost some: { 2 ≤ copies },
     ghost few: { copies ≤ 8 },
 }
@@ -27,14 +30,24 @@ fn copy_words(alloc: Global, texts: &[&str]) -> Result<Vec<String>, AllocError>
     Ok(words)
 }
 
+fn push_words(alloc: Global, extra: &[String], words: &mut Vec<String>) -> Result<(), AllocError>
+    ensures { OnOk result
+        (words_of words.new.items ≡ words_of words.old.items ++ texts extra.now) }
+{
+    'extra: for word in extra {
+        words.push(String::from_str(alloc, word.as_str())?)?;
+    }
+    Ok(())
+}
+
 impl<'a> Lane<'a> {
     ghost use Rattle.std.specs.Prelude.{◌≡◌, ◌<◌, IfOk};
     ghost use Rattle.lane.specs.child_processes.Spawners.{words_of};
     ghost use Rattle.lane.specs.Words.{child_words, lane_value};
 
-    /// The arguments with which a child is started: its program, and then those of `det record`.
-    /// Children are counted from 0, and child k has k + 1 workers. So the copies differ in what
-    /// must not change a record.
+    /// The arguments with which a child is started: its program, those of `det record`, and those
+    /// after `--`. Children are counted from 0, and child k has k + 1 workers. So the copies differ
+    /// in what must not change a record.
     pub fn child_words(&self, alloc: Global, child: u32) -> Result<Vec<String>, AllocError>
         requires { child < 8 }
         ensures { IfOk result (λ words. words_of words.items
@@ -50,6 +63,8 @@ impl<'a> Lane<'a> {
             "--workers",
             workers,
         ];
-        copy_words(alloc, &texts)
+        let mut words = copy_words(alloc, &texts)?;
+        push_words(alloc, self.options.extra, &mut words)?;
+        Ok(words)
     }
 }

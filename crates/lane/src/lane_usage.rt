@@ -8,7 +8,7 @@ use cli_words::TextWord;
 pub const USAGE: &str = "\
 det_lane: runs a program in several copies and compares their records
 
-  det_lane PROGRAM COPIES MANIFEST STIM
+  det_lane PROGRAM COPIES MANIFEST STIM [--timeout S] [-- WORD..]
   det_lane --help                this text; also -h and help
   det_lane --version             the version; also -V and version
 
@@ -17,14 +17,18 @@ det_lane: runs a program in several copies and compares their records
   COPIES      the number of copies, 2 to 8
   MANIFEST    a file with the manifest, in TOML
   STIM        a file with the text of a stimulus
+  --timeout S   the seconds for which a copy may write nothing while it is
+              waited for, 1 to 86400. After them it is stopped: a spawn fault
+  -- WORD..   further words for each copy, after its own
 
 The copies run side by side, each as a child process with the words
 `record MANIFEST STIM --workers K`, where K is 1 for copy 0, 2 for copy 1 and so
 on. What they write is compared as it comes. Standard output takes one line:
 `agree N`, where N is the number of cycles, or `differ copy K PLACE`. Copies are
-counted from 0. A copy whose output isn't read to its end is stopped, and no
-copy runs on when this program has ended. The statuses of all copies count where
-they agree, and that of a copy whose record breaks off.
+counted from 0. What copy K writes to standard error is written there, with
+`child K: ` before each line. A copy whose output isn't read to its end is
+stopped, and no copy runs on when this program has ended. The statuses of all
+copies count where they agree, and that of a copy whose record breaks off.
 
 Exit statuses:
   0  done                      7  write fault

@@ -10,6 +10,7 @@ pub mod child_processes;
 mod lane;
 mod lane_answer;
 mod lane_command;
+mod lane_options;
 mod lane_program;
 mod lane_status;
 mod lane_usage;
@@ -18,7 +19,8 @@ mod verdict_or_answer;
 
 pub use lane::Lane;
 pub use lane_answer::LaneAnswer;
-pub use lane_command::LaneCommand;
+pub use lane_command::{LaneCommand, limit_of};
+pub use lane_options::LaneOptions;
 pub use lane_program::lane_top;
 pub use lane_status::LaneStatus;
 pub use lane_usage::{USAGE, VERSION};

@@ -128,7 +128,7 @@ fn a_process_that_writes_no_record_is_reported(rt: HostRuntime) -> Result<(), Fa
     let alloc = rt.alloc();
     let words = words_of(alloc, "/bin/echo 2 m s")?;
     let mut shelf = ChildShelf {
-        spawner: ProcessSpawner::new(&rt, alloc),
+        spawner: ProcessSpawner::new(&rt, alloc, rt.stderr(), None),
     };
     let mut out = sink_of(alloc, 100)?;
     let mut err = sink_of(alloc, 100)?;

@@ -77,6 +77,11 @@ bool det_frame_sample(const DetFrame *frame, const uint8_t *bytes, size_t count,
 bool det_frame_element(const DetFrame *frame, const uint8_t *bytes, size_t count, size_t *at,
                        DetElement *element);
 
+/* Whether these bytes are exactly `elements` elements of a finished cycle, one after another: of
+ * each, its length in two bytes, at most 64 bytes, and, unless the format is 1, its draws in four.
+ * Numbers are big-endian. */
+bool det_are_elements(uint8_t format, uint32_t elements, const uint8_t *bytes, size_t count);
+
 enum { DET_FRAMES_EQUAL = 0, DET_FRAMES_DIFFER = 1, DET_FRAMES_NONE = 2 };
 
 /* Compares what may be two frames `number`, counted from 0, of two records in this format with so

@@ -76,6 +76,11 @@ uint8_t det_run_open(DetRun *run, const DetRecord *record, const DetTime *time,
 uint8_t det_run_element(DetRun *run, const uint8_t *bytes, size_t count, uint32_t draws,
                         uint8_t *out, size_t room, size_t *written);
 
+/* Passes over the next `elements` elements, whose bytes the caller put itself: those for which
+ * det_are_elements of det_reading.h returns true, in the record's format. They come after the bytes
+ * of the calls before. It is misplaced if fewer are left. */
+uint8_t det_run_elements(DetRun *run, uint32_t elements);
+
 /* Closes a cycle, and moves the record on. It is misplaced if an element is left out, or if the
  * record has moved since the cycle was opened. */
 uint8_t det_run_close(const DetRun *run, DetRecord *record, const uint8_t *output,

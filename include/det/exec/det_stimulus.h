@@ -53,6 +53,27 @@ uint8_t det_stimulus_step(DetStimulus *stimulus, const uint8_t *bytes, size_t co
  * BAD, `left` bytes are left and no more come. If they aren't, `line` becomes the bad line. */
 bool det_stimulus_end(const DetStimulus *stimulus, size_t left, uint64_t *line);
 
+/* What may come in place of a bad line: the hints of det. T, E and V are a time, an event and a
+ * value, as docs/FORMATS.md has them. */
+enum {
+  DET_WANTED_NOTHING = 0,     /* nothing else: a good line comes next */
+  DET_WANTED_FIRST_LINE = 1,  /* `stim 1` */
+  DET_WANTED_FIRST_BLOCK = 2, /* `cycle T`, `cycle -` or `terminate` */
+  DET_WANTED_LINE = 3,        /* one of these, or `sample E V` */
+  DET_WANTED_NO_MORE = 4,     /* nothing after `terminate` */
+  DET_WANTED_SHORT_LINE = 5,  /* a line of at most 128 bytes */
+  DET_WANTED_NO_RETURN = 6,   /* no carriage return at the end of a line */
+  DET_WANTED_TIME = 7,        /* a T in its range */
+  DET_WANTED_EVENT = 8,       /* an E below the number of events */
+  DET_WANTED_VALUE = 9,       /* a V in its range */
+  DET_WANTED_FEW_SAMPLES = 10, /* at most 4,096 samples in a cycle */
+  DET_WANTED_LINE_FEED = 11   /* a line feed: all bytes are a good line without one */
+};
+
+/* What may come where the bytes begin. As in a step, they are those that no step took: at least 129
+ * of them, or all that are left. */
+uint8_t det_stimulus_wanted(const DetStimulus *stimulus, const uint8_t *bytes, size_t count);
+
 #ifdef __cplusplus
 }
 #endif

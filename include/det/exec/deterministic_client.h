@@ -46,7 +46,8 @@ class ActivationSource {
  public:
   virtual ~ActivationSource() = default;
 
-  /// Waits until the next activation is due. Only a cycle uses the time.
+  /// Waits until the next activation is due. The first three are kRegisterServices,
+  /// kServiceDiscovery and kInit, unless one stops the process. Only a cycle uses the time.
   virtual Activation Next() = 0;
 };
 
@@ -104,10 +105,10 @@ class DeterministicClient {
   DeterministicClient(DeterministicClient&&) noexcept = default;
   DeterministicClient& operator=(DeterministicClient&&) noexcept = default;
 
-  /// Takes the memory for passes over at most `elements` elements. Afterwards no call of the client
-  /// takes memory for a container of that many. Without it a pass takes memory if its container is
-  /// the longest so far. `random_access` is false for a container without random access, which
-  /// needs 8 bytes more for each element.
+  /// Takes the memory for passes over at most `elements` elements. Afterwards no pass over a
+  /// container of that many with random access takes memory. If `random_access` is false, neither
+  /// does one without random access, which needs 8 bytes more for each element. A pass that nothing
+  /// was reserved for takes memory if its container is the longest so far of its kind.
   Result<void> Reserve(std::size_t elements, bool random_access = true) noexcept {
     if (elements > kMostElements) return DeterministicErrc::kTooManyElements;
     if (!draws_.Grow(elements)) return DeterministicErrc::kNoMemory;
@@ -147,18 +148,49 @@ class DeterministicClient {
   template <typename ValueType, typename Container>
   Result<void> RunWorkerPool(WorkerRunnable<ValueType>& runnable, Container& container,
                              DrawCount draws = DrawCount::kEach) noexcept {
-    return RunPassOver<ValueType>(runnable, container, draws);
+    internal::RunOnly<WorkerRunnable<ValueType>> work(runnable);
+    return RunPassOver<ValueType>(work, container, draws);
   }
 
-  /// The same with a function of an element and its `WorkerThread`.
+  /// The same with a function of an element and its `WorkerThread` or `InlineWorkerThread`.
   template <typename ValueType, typename Function, typename Container>
   Result<void> RunEach(Function& function, Container& container,
                        DrawCount draws = DrawCount::kEach) noexcept {
+    using Thread = internal::ThreadOf<Function, ValueType>;
     struct {
       Function& function;
-      void Run(ValueType& element, WorkerThread& thread) { function(element, thread); }
+      void Run(ValueType& element, Thread& thread) { function(element, thread); }
     } runnable{function};
-    return RunPassOver<ValueType>(runnable, container, draws);
+    internal::RunOnly<decltype(runnable), Thread> work(runnable);
+    return RunPassOver<ValueType>(work, container, draws);
+  }
+
+  /// The same, and makes one value of all elements. Their container is cut into blocks, by its
+  /// length alone. In each block a part begins as `empty`, and `function` gets each element, its
+  /// `WorkerThread` and the part. `join(all, part)` then adds the parts to `empty` in the order of
+  /// their blocks. So the value is the same for every number of workers, even if it depends on that
+  /// order, as sums of floating point do. `join` runs on the caller's thread. A part is a plain
+  /// value of at most 256 bytes. The parts of all blocks are on the caller's stack: 256 at most.
+  template <typename ValueType, typename Part, typename Function, typename Join, typename Container>
+  Result<Part> FoldEach(Part const& empty, Function& function, Join& join, Container& container,
+                        DrawCount draws = DrawCount::kEach) noexcept {
+    using Thread = internal::ThreadOf<Function, ValueType, Part&>;
+    internal::RunAndFold<Function, Part, Thread> work(function, empty);
+    Result<void> const run = RunPassOver<ValueType>(work, container, draws);
+    if (!run) return run.Error();
+    DET_EXEC_TRY { return work.Joined(blocks_, join); }
+    DET_EXEC_CATCH_ALL { return DeterministicErrc::kApplicationThrew; }
+  }
+
+  /// Has the workers run the blocks of a work, at most this many at a time. The engine shares the
+  /// spelling of elements in this way.
+  void Share(internal::SharedWork& work, std::size_t blocks) noexcept {
+    std::size_t const helpers = std::min(crew_->Threads(), std::max(blocks, std::size_t{1}) - 1);
+    if (helpers == 0) {
+      work.RunBlocks();
+    } else {
+      crew_->Do(work, helpers);
+    }
   }
 
   /// The least element that refused in the last pass, if one did.
@@ -227,8 +259,8 @@ class DeterministicClient {
     refused_.reset();
   }
 
-  template <typename ValueType, typename Runnable, typename Container>
-  Result<void> RunPassOver(Runnable& runnable, Container& container, DrawCount draws) noexcept {
+  template <typename ValueType, typename Work, typename Container>
+  Result<void> RunPassOver(Work& work, Container& container, DrawCount draws) noexcept {
     using std::begin;
     using std::end;
     using First = decltype(begin(container));
@@ -239,14 +271,14 @@ class DeterministicClient {
         auto const first = begin(container);
         auto const count = static_cast<std::size_t>(end(container) - first);
         Result<void> const ready = PreparePass(count, draws);
-        return ready ? RunPass(runnable, internal::ByOffset<First>{first}, count, draws) : ready;
+        return ready ? RunPass(work, internal::ByOffset<First>{first}, count, draws) : ready;
       } else {
         std::size_t const count = CountOf(begin(container), end(container));
         Result<void> const ready = PreparePass(count, draws);
         if (!ready) return ready;
         if (!places_.Grow(count)) return DeterministicErrc::kNoMemory;
         ListPlaces<ValueType>(begin(container), end(container));
-        return RunPass(runnable, internal::ByTable<ValueType>{places_.data()}, count, draws);
+        return RunPass(work, internal::ByTable<ValueType>{places_.data()}, count, draws);
       }
     }
     DET_EXEC_CATCH_ALL { return DeterministicErrc::kApplicationThrew; }
@@ -278,21 +310,15 @@ class DeterministicClient {
     return {};
   }
 
-  template <typename Runnable, typename Place>
-  Result<void> RunPass(Runnable& runnable, Place place, std::size_t elements,
-                       DrawCount draws) noexcept {
+  template <typename Work, typename Place>
+  Result<void> RunPass(Work& work, Place place, std::size_t elements, DrawCount draws) noexcept {
     auto const count = static_cast<std::uint32_t>(elements);
     DetPassKeys keys;
     det_pass_keys(&keys, Seed(), Cycle(), passes_++);
-    internal::Pass<Runnable, Place> pass(runnable, place, count, keys,
-                                         draws == DrawCount::kEach ? draws_.data() : nullptr);
-    std::size_t const blocks = det_block_count(count);
-    std::size_t const helpers = std::min(crew_->Threads(), std::max(blocks, std::size_t{1}) - 1);
-    if (helpers == 0) {
-      pass.Work();
-    } else {
-      crew_->Do(pass, helpers);
-    }
+    internal::Pass<Work, Place> pass(work, place, count, keys,
+                                     draws == DrawCount::kEach ? draws_.data() : nullptr);
+    blocks_ = det_block_count(count);
+    Share(pass, blocks_);
     refused_.reset();
     if (pass.HasRefused()) refused_ = pass.Refused();
     if (pass.Thrown() == pass.kNone) return {};
@@ -318,7 +344,7 @@ class DeterministicClient {
   DetClient client_{}, begun_{};
   std::optional<ActivationReturnType> activation_;
   std::uint8_t passes_ = 0;
-  std::size_t drawn_ = 0;
+  std::size_t drawn_ = 0, blocks_ = 0;
   std::optional<PassRefusal> refused_;
   internal::Array<std::uint32_t> draws_;
   internal::Array<void*> places_;

@@ -159,7 +159,8 @@ class Engine final : private ActivationSource {
     if (!before_.Grow(elements_.size())) return DeterministicErrc::kNoMemory;
     RecordShape shape;
     shape.elements = elements_.size();
-    shape.element_bytes = std::min(start.ElementBytes(), kMostElementBytes);
+    element_bytes_ = std::min(start.ElementBytes(), kMostElementBytes);
+    shape.element_bytes = element_bytes_;
     shape.samples = windows_.size() == 0 ? 0 : options.samples;
     shape.output = output_.Most();
     Result<void> const reserved = client_->Reserve(elements_.size());
@@ -170,26 +171,33 @@ class Engine final : private ActivationSource {
     internal::Array<DetElement> spelled;
     if (!spelled.Grow(elements_.size())) return DeterministicErrc::kNoMemory;
     DET_EXEC_TRY {
-      for (std::size_t i = 0; i < elements_.size(); ++i) SpellElement(i, spelled[i]);
+      for (std::size_t i = 0; i < elements_.size(); ++i) {
+        ElementRoom room(spelled[i].bytes, kMostElementBytes);
+        SpellElement(i, room);
+        spelled[i].len = static_cast<std::uint8_t>(room.Size());
+      }
     }
     DET_EXEC_CATCH_ALL { return DeterministicErrc::kApplicationThrew; }
     return recorder_->Init(Items<DetElement>(spelled.data(), spelled.size()));
   }
 
-  void SpellElement(std::size_t number, DetElement& element) const {
-    ElementSpelling spelling(element);
+  void SpellElement(std::size_t number, ElementRoom& room) const {
+    ElementSpelling spelling(room);
     J::Spell(elements_[number], spelling);
   }
 
   Result<void> Finish(CycleInput const& input) noexcept {
     auto const draws = client_->Draws();
-    auto const spell = [this, draws](std::uint32_t number, DetElement& element) {
-      SpellElement(number, element);
-      element.draws = number < draws.size() ? draws[number] : 0;
+    auto const spell = [this, draws](std::uint32_t number, ElementRoom& room) {
+      SpellElement(number, room);
+      return number < draws.size() ? draws[number] : 0;
+    };
+    auto const share = [this](internal::SharedWork& work, std::size_t blocks) {
+      client_->Share(work, blocks);
     };
     DET_EXEC_TRY {
-      return recorder_->FinishedInPlace(input, elements_.size(), spell,
-                                        Items<std::uint8_t>(output_.data(), output_.size()));
+      return recorder_->FinishedInBlocks(input, elements_.size(), element_bytes_, spell, share,
+                                         Items<std::uint8_t>(output_.data(), output_.size()));
     }
     DET_EXEC_CATCH_ALL { return DeterministicErrc::kApplicationThrew; }
   }
@@ -217,6 +225,7 @@ class Engine final : private ActivationSource {
   internal::Array<EventWindow> windows_;
   internal::Array<Element> elements_, before_;
   State state_{}, state_before_{};
+  std::size_t element_bytes_ = kMostElementBytes;
   BoundedBytes output_;
   std::optional<DetRefusal> refusal_;
 };

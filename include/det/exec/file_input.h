@@ -49,7 +49,8 @@ class FileInput {
   Outcome ReadMore() noexcept {
     if (!MakeRoom()) return Outcome::OfStatus(DET_STATUS_OUT_OF_MEMORY);
     for (;;) {
-      ssize_t const read = ::read(descriptor_, room_.data() + end_, kPiece);
+      std::size_t const most = std::min(kPiece, room_.size() - end_);
+      ssize_t const read = ::read(descriptor_, room_.data() + end_, most);
       if (read < 0 && errno == EINTR) continue;
       if (read < 0) return Outcome::ReadFault(name_, errno);
       at_end_ = read == 0;
@@ -68,14 +69,14 @@ class FileInput {
  private:
   static constexpr std::size_t kPiece = 65536;
 
-  /// Makes room for a piece after the bytes.
+  /// Makes room after the bytes, if it can for a piece. The buffer grows only if they fill it, so
+  /// that an item takes no memory if one of its length fitted before.
   bool MakeRoom() noexcept {
     if (room_.size() - end_ >= kPiece) return true;
-    std::memmove(room_.data(), Bytes(), Count());
+    if (begin_ != 0) std::memmove(room_.data(), Bytes(), Count());
     end_ -= begin_;
     begin_ = 0;
-    if (room_.size() - end_ >= kPiece) return true;
-    return room_.Grow(std::max(2 * room_.size(), end_ + kPiece));
+    return end_ != room_.size() || room_.Grow(2 * room_.size());
   }
 
   internal::Array<std::uint8_t> room_;

@@ -89,7 +89,7 @@ class BoundedBytes {
   std::size_t size_ = 0, most_ = 0;
 };
 
-using ElementSpelling = Spelling<DetElement>;
+using ElementSpelling = Spelling<ElementRoom>;
 using OutputSpelling = Spelling<BoundedBytes>;
 
 /// The state of a job that has none.
@@ -224,8 +224,9 @@ class Cycle : public JobContext<J> {
   }
 
   /// Runs a pass over the job's elements: a `WorkerRunnable`, or a function of an element and its
-  /// `WorkerThread`. False if the cycle ends here: an element refused, an exception left the
-  /// function, or it is the ninth pass. The job then returns; the engine does the rest.
+  /// `WorkerThread` or `InlineWorkerThread`. False if the cycle ends here: an element refused, an
+  /// exception left the function, or it is the ninth pass. The job then returns; the engine does
+  /// the rest.
   template <typename Work>
   bool Pass(Work&& work) noexcept {
     Span<Element> elements = this->Elements();
@@ -237,6 +238,19 @@ class Cycle : public JobContext<J> {
   template <typename Work, typename Container>
   bool Pass(Work&& work, Container& container) noexcept {
     return PassOver(work, container, DrawCount::kNone);
+  }
+
+  /// Runs a pass over the job's elements that also makes one value of them, the same for every
+  /// number of workers. `work` is a function of an element, its `WorkerThread` and a part, which
+  /// begins as `empty` in each block; `join(all, part)` adds the parts in the order of the blocks.
+  /// `DeterministicClient::FoldEach` says more. No value if the cycle ends here.
+  template <typename Part, typename Work, typename Join>
+  std::optional<Part> Fold(Part const& empty, Work&& work, Join&& join) noexcept {
+    if (HasEnded()) return std::nullopt;
+    Span<Element> elements = this->Elements();
+    Result<Part> const run =
+        this->client_->template FoldEach<Element>(empty, work, join, elements);
+    return EndPass(run) ? std::optional<Part>(*run) : std::nullopt;
   }
 
   /// Refuses the cycle: in its phase `prepare` before the first pass, else in `conclude`. The first
@@ -258,7 +272,12 @@ class Cycle : public JobContext<J> {
   template <typename Work, typename Container>
   bool PassOver(Work& work, Container& container, DrawCount count) noexcept {
     if (HasEnded()) return false;
-    Result<void> const run = RunOver(work, container, count);
+    return EndPass(RunOver(work, container, count));
+  }
+
+  /// Keeps what ended the cycle, if something did.
+  template <typename Value>
+  bool EndPass(Result<Value> const& run) noexcept {
     if (!run) {
       this->Fail(run.Error());
     } else if (auto const refused = this->client_->Refused()) {
@@ -269,16 +288,22 @@ class Cycle : public JobContext<J> {
     return !HasEnded();
   }
 
-  template <typename ValueType, typename Container>
-  Result<void> RunOver(WorkerRunnable<ValueType>& runnable, Container& container,
-                       DrawCount count) noexcept {
-    return this->client_->RunWorkerPool(runnable, container, count);
+  /// A runnable is called as what it is, so a final one needs no virtual call.
+  template <typename Work, typename Container,
+            typename ValueType =
+                std::remove_pointer_t<decltype(internal::ElementOf(std::declval<Work*>()))>>
+  Result<void> RunOver(Work& runnable, Container& container, DrawCount count) noexcept {
+    auto const run = [&runnable](ValueType& element, WorkerThread& thread) {
+      runnable.Run(element, thread);
+    };
+    return this->client_->template RunEach<ValueType>(run, container, count);
   }
   template <typename Work, typename Container,
             typename ValueType =
                 std::remove_reference_t<decltype(*std::begin(std::declval<Container&>()))>,
-            typename = decltype(std::declval<Work&>()(std::declval<ValueType&>(),
-                                                      std::declval<WorkerThread&>()))>
+            typename = decltype(std::declval<Work&>()(
+                std::declval<ValueType&>(),
+                std::declval<internal::ThreadOf<Work, ValueType>&>()))>
   Result<void> RunOver(Work& work, Container& container, DrawCount count) noexcept {
     return this->client_->template RunEach<ValueType>(work, container, count);
   }

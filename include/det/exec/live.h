@@ -37,8 +37,10 @@ class Arrivals {
   std::size_t events_, count_ = 0;
 };
 
-/// An application's own source: a timer, a bus. The thread that runs the job calls it. A run takes
-/// no memory in its cycles if `Next` and `Arrived` take none. An exception ends the run.
+/// An application's own source: a timer, a bus. The thread that runs the job calls it. The first
+/// three calls of `Next` are for Register, Discover and Init, and what they return isn't used; each
+/// later one is for a cycle. A run takes no memory in its cycles if `Next` and `Arrived` take none.
+/// An exception ends the run.
 class LiveSource : public ActivationSource {
  public:
   /// The platform's part of an activation, such as offering a service. It is called after `Next`.

@@ -72,6 +72,14 @@ inline Outcome BadManifest(DetManifestFault const& fault, char const* job) noexc
   return outcome.Add("\n");
 }
 
+/// The outcome of a text that isn't TOML, with the line at which it stops being that.
+inline Outcome NotToml(DetManifestFault const& fault, FileInput const& file) noexcept {
+  Outcome outcome = BadManifest(fault, nullptr);
+  std::size_t const line = det_manifest_toml_line(file.Bytes(), file.Count());
+  if (line == 0) return outcome;
+  return outcome.Add("  line ").AddNumber(static_cast<std::int64_t>(line)).Add("\n");
+}
+
 /// Reads a manifest. If it isn't done, `manifest` may be anything. `job` is for a hint.
 inline Outcome ReadManifest(char const* name, bool is_strict, DetManifest& manifest,
                             char const* job = nullptr) noexcept {
@@ -84,8 +92,9 @@ inline Outcome ReadManifest(char const* name, bool is_strict, DetManifest& manif
   switch (det_manifest_read(&manifest, &fault, file.Bytes(), file.Count(), is_strict)) {
     case DET_MANIFEST_READ: return Outcome();
     case DET_MANIFEST_NO_MEMORY: return Outcome::OfStatus(DET_STATUS_OUT_OF_MEMORY);
-    default: return BadManifest(fault, job);
+    default: break;
   }
+  return fault.reason == DET_MANIFEST_NOT_TOML ? NotToml(fault, file) : BadManifest(fault, job);
 }
 
 }  // namespace DET_EXEC_ABI

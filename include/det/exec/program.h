@@ -6,6 +6,7 @@
 
 #include <cstddef>
 #include <cstdint>
+#include <cstring>
 #include <optional>
 
 #include "det/exec/arguments.h"
@@ -173,6 +174,7 @@ class Program {
                                            DetHeader const& header,
                                            std::uint32_t number) const noexcept {
       if (!IsRun(frame) && frame.tag != static_cast<std::uint8_t>(FrameTag::kInit)) return {};
+      if (IsFrame(record)) return {};
       DetPlace place{};
       std::uint8_t const compared =
           det_frame_difference(header.format, header.event_count, number, record.Bytes(),
@@ -182,6 +184,11 @@ class Program {
     }
 
    private:
+    /// Whether the part has the bytes of the frame that was read last. The reader has checked them.
+    bool IsFrame(RecordReader const& record) const noexcept {
+      return count_ == record.Length() && std::memcmp(bytes_, record.Bytes(), count_) == 0;
+    }
+
     std::uint8_t const* bytes_ = nullptr;
     std::size_t count_ = 0;
   };

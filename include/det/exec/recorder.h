@@ -11,6 +11,7 @@
 #include <string_view>
 
 #include "det/exec/det_record.h"
+#include "det/exec/element_blocks.h"
 #include "det/exec/event_window.h"
 #include "det/exec/memory.h"
 #include "det/exec/record_sink.h"
@@ -134,11 +135,34 @@ class Recorder {
                                Items<std::uint8_t> output = {}) {
     if (failed_) return DeterministicErrc::kWriteFailed;
     if (count > kMostElements) return DeterministicErrc::kOutOfRange;
-    used_ = 0;
-    DetRecord record = record_;
-    std::uint8_t const answer =
-        SpellCycle(record, input, static_cast<std::uint32_t>(count), spell, output);
-    return Settle(answer, record);
+    return WriteCycle(input, static_cast<std::uint32_t>(count), output,
+                      [&](DetRun& run) { return SpellEach(run, spell); });
+  }
+
+  /// The same part, whose elements several threads spell. `spell(number, room)` appends the bytes
+  /// of an element to an `ElementRoom`, and returns its draws. `share(work, blocks)` has threads
+  /// run the blocks of a work, as `DeterministicClient::Share` does. An element has at most
+  /// `element_bytes`; if one has more, this thread spells all of them again, and can take memory.
+  template <typename Spell, typename Share>
+  Result<void> FinishedInBlocks(CycleInput const& input, std::size_t count,
+                                std::size_t element_bytes, Spell const& spell, Share const& share,
+                                Items<std::uint8_t> output) {
+    if (failed_) return DeterministicErrc::kWriteFailed;
+    if (count > kMostElements) return DeterministicErrc::kOutOfRange;
+    bool are_good = true;
+    Result<void> const done =
+        WriteCycle(input, static_cast<std::uint32_t>(count), output, [&](DetRun& run) {
+          std::uint8_t const answer = SpellBlocks(run, element_bytes, spell, share);
+          are_good = answer != kNotInBlocks;
+          return answer;
+        });
+    if (are_good) return done;
+    auto const spell_one = [&spell](std::uint32_t number, DetElement& element) {
+      ElementRoom room(element.bytes, kMostElementBytes);
+      element.draws = spell(number, room);
+      element.len = static_cast<std::uint8_t>(room.Size());
+    };
+    return FinishedInPlace(input, count, spell_one, output);
   }
 
   /// A cycle that was refused before its passes or after them. kPool means element 0 in pass 0.
@@ -171,8 +195,9 @@ class Recorder {
                                            kMostElements * (kElementHead + kMostElementBytes) +
                                            kMostOutput;
   static constexpr std::size_t kFirstRoom = 4096;
-  /// The answer of no proved call: there is no memory for the buffer.
-  static constexpr std::uint8_t kNoMemory = 255;
+  /// Answers of no proved call: there is no memory for the buffer, and elements that can't be
+  /// spelled in blocks.
+  static constexpr std::uint8_t kNoMemory = 255, kNotInBlocks = 254;
 
   static DetTime TimeOf(CycleInput const& input) noexcept {
     return DetTime{input.time.value_or(0), input.time.has_value()};
@@ -199,15 +224,31 @@ class Recorder {
     return Settle(answer, record);
   }
 
-  template <typename SpellElement>
-  std::uint8_t SpellCycle(DetRecord& record, CycleInput const& input, std::uint32_t count,
-                          SpellElement& spell, Items<std::uint8_t> output) {
+  /// Writes a finished cycle, whose elements `spell_elements` appends to the buffer.
+  template <typename SpellElements>
+  Result<void> WriteCycle(CycleInput const& input, std::uint32_t count,
+                          Items<std::uint8_t> output, SpellElements const& spell_elements) {
+    used_ = 0;
+    DetRecord record = record_;
     DetTime const time = TimeOf(input);
     DetRun run{};
     std::uint8_t answer = Spell([&](std::uint8_t* out, std::size_t room, std::size_t* written) {
       return det_run_open(&run, &record, &time, input.samples.data(), input.samples.size(), count,
                           out, room, written);
     });
+    if (answer == DET_RECORD_DONE) answer = spell_elements(run);
+    if (answer == DET_RECORD_DONE) {
+      answer = Spell([&](std::uint8_t* out, std::size_t room, std::size_t* written) {
+        return det_run_close(&run, &record, output.data(), output.size(), out, room, written);
+      });
+    }
+    return Settle(answer, record);
+  }
+
+  template <typename SpellElement>
+  std::uint8_t SpellEach(DetRun& run, SpellElement& spell) {
+    std::uint8_t answer = DET_RECORD_DONE;
+    std::uint32_t const count = run.left;
     for (std::uint32_t i = 0; answer == DET_RECORD_DONE && i < count; ++i) {
       DetElement element;
       element.len = 0;
@@ -218,10 +259,22 @@ class Recorder {
         return det_run_element(&run, element.bytes, element.len, element.draws, out, room, written);
       });
     }
-    if (answer != DET_RECORD_DONE) return answer;
-    return Spell([&](std::uint8_t* out, std::size_t room, std::size_t* written) {
-      return det_run_close(&run, &record, output.data(), output.size(), out, room, written);
-    });
+    return answer;
+  }
+
+  template <typename SpellElement, typename Share>
+  std::uint8_t SpellBlocks(DetRun& run, std::size_t element_bytes, SpellElement const& spell,
+                           Share const& share) {
+    using Blocks = internal::ElementBlocks<SpellElement>;
+    std::uint32_t const count = run.left;
+    if (!buffer_.Grow(used_ + count * Blocks::BytesOf(record_.format, element_bytes))) {
+      return kNoMemory;
+    }
+    Blocks blocks(spell, record_.format, count, element_bytes, buffer_.data() + used_);
+    share(blocks, det_block_count(count));
+    if (!blocks.AreGood()) return kNotInBlocks;
+    used_ += blocks.Join();
+    return det_run_elements(&run, count);
   }
 
   /// Appends the bytes of a proved call to the buffer, with more room as long as the call asks for

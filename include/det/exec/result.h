@@ -47,7 +47,7 @@ enum class DeterministicErrc : std::int32_t {
   kOutOfRange = 15,           ///< a value or a count isn't in its range
   kWriteFailed = 16,          ///< a write of the record failed, now or before
   kOutputTooLong = 17,        ///< an output is longer than its reserved room
-  kBadThreadOptions = 18      ///< the system refuses an attribute of a thread
+  kBadThreadOptions = 18      ///< an attribute has a value that no thread can have
 };
 
 /// The text of an error.

@@ -31,6 +31,43 @@ inline void Append(std::vector<std::uint8_t>& output, std::uint8_t const* bytes,
   output.insert(output.end(), bytes, bytes + count);
 }
 
+/// The room for the bytes of one element in a record. More than fit are dropped.
+class ElementRoom {
+ public:
+  ElementRoom(std::uint8_t* bytes, std::size_t most) noexcept : bytes_(bytes), most_(most) {}
+
+  std::size_t Size() const noexcept { return size_; }
+  /// Whether more bytes were appended than fit.
+  bool Overflowed() const noexcept { return size_ > most_; }
+
+  friend void Append(ElementRoom& room, std::uint8_t const* bytes, std::size_t count) noexcept {
+    if (room.Overflowed() || count > room.most_ - room.size_) {
+      room.size_ = room.most_ + 1;
+      return;
+    }
+    std::memcpy(room.bytes_ + room.size_, bytes, count);
+    room.size_ += count;
+  }
+
+ private:
+  std::uint8_t* bytes_;
+  std::size_t most_, size_ = 0;
+};
+
+namespace internal {
+
+/// Writes the low `width` bytes of a number. Compilers make two instructions of the eight terms,
+/// and not of a loop.
+template <std::size_t width>
+void Store(std::uint8_t* at, std::uint64_t value) noexcept {
+  auto const byte = [value](unsigned from) { return static_cast<std::uint8_t>(value >> from); };
+  std::uint8_t const bytes[8] = {byte(56), byte(48), byte(40), byte(32),
+                                 byte(24), byte(16), byte(8),  byte(0)};
+  std::memcpy(at, bytes + (8 - width), width);
+}
+
+}  // namespace internal
+
 /// Writes numbers at the end of an element or an output.
 template <typename Bytes>
 class Spelling {
@@ -47,9 +84,7 @@ class Spelling {
   template <std::size_t width>
   Spelling& Put(std::uint64_t value) {
     std::uint8_t bytes[width];
-    for (std::size_t i = 0; i < width; ++i) {
-      bytes[i] = static_cast<std::uint8_t>(value >> (8 * (width - 1 - i)));
-    }
+    internal::Store<width>(bytes, value);
     Append(bytes_, bytes, width);
     return *this;
   }

@@ -14,6 +14,28 @@
 
 namespace det::exec {
 inline namespace DET_EXEC_ABI {
+namespace internal {
+
+/// What det's hint on a bad line says is wanted; after that of an event comes the number of events.
+/// Null if a good line comes next.
+constexpr char const* WantedText(std::uint8_t wanted) noexcept {
+  switch (wanted) {
+    case DET_WANTED_FIRST_LINE: return "stim 1";
+    case DET_WANTED_FIRST_BLOCK: return "cycle T, cycle - or terminate";
+    case DET_WANTED_LINE: return "cycle T, cycle -, sample E V or terminate";
+    case DET_WANTED_NO_MORE: return "nothing behind terminate";
+    case DET_WANTED_SHORT_LINE: return "a line of at most 128 bytes";
+    case DET_WANTED_NO_RETURN: return "no carriage return at the end of a line";
+    case DET_WANTED_TIME: return "T as a decimal, 0 to 18446744073709551615";
+    case DET_WANTED_EVENT: return "E as a decimal below ";
+    case DET_WANTED_VALUE: return "V as a decimal, -1000000000000 to 1000000000000";
+    case DET_WANTED_FEW_SAMPLES: return "at most 4096 samples in a cycle";
+    case DET_WANTED_LINE_FEED: return "a line feed at the end";
+    default: return nullptr;
+  }
+}
+
+}  // namespace internal
 
 /// A complete block of a stimulus, or its end.
 struct Block {
@@ -74,9 +96,17 @@ class StimulusReader {
     return det_stimulus_end(&stimulus_, file_.Count(), &line) ? Outcome() : Bad(line);
   }
 
-  static Outcome Bad(std::uint64_t line) noexcept {
-    return Outcome::Of(DET_STATUS_BAD_STIMULUS,
-                       [line](DetText& text) { det_text_bad_stimulus(line, &text); });
+  /// A bad line where the bytes of the file begin, with det's hint.
+  Outcome Bad(std::uint64_t line) const noexcept {
+    Outcome outcome = Outcome::Of(DET_STATUS_BAD_STIMULUS, [line](DetText& text) {
+      det_text_bad_stimulus(line, &text);
+    });
+    std::uint8_t const wanted = det_stimulus_wanted(&stimulus_, file_.Bytes(), file_.Count());
+    char const* const text = internal::WantedText(wanted);
+    if (text == nullptr) return outcome;
+    outcome.Add("  wanted: ").Add(text);
+    if (wanted == DET_WANTED_EVENT) outcome.AddNumber(stimulus_.events);
+    return outcome.Add("\n");
   }
 
   FileInput file_;

@@ -5,6 +5,8 @@
 #include <pthread.h>
 #include <sched.h>
 
+#include <atomic>
+#include <chrono>
 #include <cstddef>
 #include <cstdint>
 #include <memory>
@@ -37,15 +39,19 @@ struct ThreadOptions {
   void (*started)(unsigned worker, void* context) noexcept = nullptr;
   void (*ending)(unsigned worker, void* context) noexcept = nullptr;
   void* context = nullptr;
+  /// How long a thread that has nothing to do looks for work, in microseconds, before it sleeps. A
+  /// thread that sleeps needs longer to begin. While it looks it yields its processor to threads of
+  /// the same priority only, so 0 is better under a real-time policy.
+  std::uint32_t spin_microseconds = 200;
 };
 
 namespace internal {
 
-/// Work that several threads do together. Each calls `Work`, which returns once nothing is left to
-/// begin.
+/// Work that several threads do together, in blocks. Each calls `RunBlocks`, which returns once no
+/// block is left to begin.
 class SharedWork {
  public:
-  virtual void Work() noexcept = 0;
+  virtual void RunBlocks() noexcept = 0;
 
  protected:
   ~SharedWork() = default;
@@ -82,7 +88,6 @@ class Condition {
 
   void Wait(Mutex& mutex) noexcept { pthread_cond_wait(&condition_, mutex.Native()); }
   void Signal() noexcept { pthread_cond_signal(&condition_); }
-  void SignalAll() noexcept { pthread_cond_broadcast(&condition_); }
 
  private:
   pthread_cond_t condition_;
@@ -137,7 +142,63 @@ inline void SetName(pthread_t thread, char const* name, unsigned number) noexcep
 #endif
 }
 
-/// Threads that are kept, and wait between two pieces of work.
+/// Looks again and again whether something is so, for a limited time. Between two looks it yields
+/// the processor.
+class Spin {
+ public:
+  explicit Spin(std::uint32_t microseconds) noexcept : length_(microseconds) {}
+
+  template <typename Condition>
+  bool Until(Condition const& condition) const noexcept {
+    if (condition()) return true;
+    if (length_.count() == 0) return false;
+    auto const end = Clock::now() + length_;
+    do {
+      for (int looks = 0; looks < kLooks; ++looks) {
+        if (condition()) return true;
+      }
+      sched_yield();
+    } while (Clock::now() < end);
+    return false;
+  }
+
+ private:
+  using Clock = std::chrono::steady_clock;
+  static constexpr int kLooks = 64;
+
+  std::chrono::microseconds length_;
+};
+
+/// How many threads are still wanted for a piece of work, and how many work on it. Both are one
+/// atomic number, so a thread joins the work or finds it closed.
+class WorkCount {
+ public:
+  void Open(std::uint32_t helpers) noexcept { both_.store(helpers * kWanted); }
+
+  /// No further thread joins. Returns whether none is working.
+  bool Close() noexcept { return (both_.fetch_and(kWanted - 1) & (kWanted - 1)) == 0; }
+
+  bool IsOpen() const noexcept { return both_.load() >= kWanted; }
+  bool IsIdle() const noexcept { return both_.load() == 0; }
+
+  bool Join() noexcept {
+    std::uint32_t both = both_.load();
+    while (both >= kWanted) {
+      if (both_.compare_exchange_weak(both, both - kWanted + 1)) return true;
+    }
+    return false;
+  }
+
+  /// Returns whether this was the last one of a work that is closed.
+  bool Leave() noexcept { return both_.fetch_sub(1) == 1; }
+
+ private:
+  static constexpr std::uint32_t kWanted = 1 << 16;
+
+  std::atomic<std::uint32_t> both_{0};
+};
+
+/// Threads that are kept. Between two pieces of work they look for the next one, and then sleep.
 class Crew {
  public:
   Crew() = default;
@@ -164,17 +225,17 @@ class Crew {
   std::size_t Threads() const noexcept { return count_; }
 
   /// Does a piece of work on this thread and on up to `helpers` others. Returns once all threads
-  /// that began it have ended it. A thread that wakes up too late does nothing.
+  /// that began it have ended it. A thread that comes too late does nothing.
   void Do(SharedWork& work, std::size_t helpers) noexcept {
-    mutex_.Lock();
     work_ = &work;
-    wanted_ = helpers;
-    mutex_.Unlock();
-    for (std::size_t k = 0; k < helpers; ++k) wake_.Signal();
-    work.Work();
+    open_.Open(static_cast<std::uint32_t>(helpers));
+    if (sleeping_.load() != 0) Wake(helpers);
+    work.RunBlocks();
+    if (open_.Close()) return;
+    auto const is_idle = [this] { return open_.IsIdle(); };
+    if (Spin(options_.spin_microseconds).Until(is_idle)) return;
     mutex_.Lock();
-    wanted_ = 0;
-    while (working_ != 0) idle_.Wait(mutex_);
+    while (!is_idle()) idle_.Wait(mutex_);
     mutex_.Unlock();
   }
 
@@ -211,34 +272,49 @@ class Crew {
   }
 
   void Serve() noexcept {
-    mutex_.Lock();
-    for (;;) {
-      while (!stopping_ && wanted_ == 0) wake_.Wait(mutex_);
-      if (stopping_) break;
-      --wanted_;
-      ++working_;
-      SharedWork& work = *work_;
-      mutex_.Unlock();
-      work.Work();
+    while (WaitForWork()) {
+      if (!open_.Join()) continue;
+      work_->RunBlocks();
+      if (!open_.Leave()) continue;
       mutex_.Lock();
-      if (--working_ == 0) idle_.Signal();
+      idle_.Signal();
+      mutex_.Unlock();
     }
+  }
+
+  /// Returns once work is open, or false once the crew is stopped.
+  bool WaitForWork() noexcept {
+    auto const has_news = [this] { return stopping_.load() || open_.IsOpen(); };
+    if (!Spin(options_.spin_microseconds).Until(has_news)) {
+      mutex_.Lock();
+      ++sleeping_;
+      while (!has_news()) wake_.Wait(mutex_);
+      --sleeping_;
+      mutex_.Unlock();
+    }
+    return !stopping_.load();
+  }
+
+  /// A thread that counts as sleeping has the mutex until it waits, so it misses no signal.
+  void Wake(std::size_t threads) noexcept {
+    mutex_.Lock();
     mutex_.Unlock();
+    for (std::size_t k = 0; k < threads; ++k) wake_.Signal();
   }
 
   void Stop() noexcept {
-    mutex_.Lock();
-    stopping_ = true;
-    mutex_.Unlock();
-    wake_.SignalAll();
+    stopping_.store(true);
+    Wake(count_);
     for (std::size_t k = 0; k < count_; ++k) pthread_join(members_[k].thread, nullptr);
   }
 
   Mutex mutex_;
   Condition wake_, idle_;
   SharedWork* work_ = nullptr;
-  std::size_t wanted_ = 0, working_ = 0, count_ = 0;
-  bool stopping_ = false;
+  WorkCount open_;
+  std::atomic<std::uint32_t> sleeping_{0};
+  std::atomic<bool> stopping_{false};
+  std::size_t count_ = 0;
   ThreadOptions options_;
   std::unique_ptr<Member[]> members_;
 };

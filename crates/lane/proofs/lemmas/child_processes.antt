@@ -1,3 +1,4 @@
+pub mod ErrorLines
+pub mod OpaqueState
 pub mod Reading
 pub mod Scripted
-pub mod OpaqueState

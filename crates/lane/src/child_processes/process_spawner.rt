@@ -2,22 +2,25 @@
 ghost use Rattle.std.specs.Prelude.{◌≡◌, ◌<◌, ◌≤◌, length, vec_len, pos, Some, IfOk};
 ghost use Rattle.lane.specs.child_processes.Processes.{code_of};
 
+use crate::child_processes::error_pipes::{ErrorPipes, WaitFault};
 use crate::child_processes::{SpawnFailed, Spawner};
 use det_io::{push_within, read_with_retries};
 use std::alloc::Global;
 use std::io::{self, BufReader};
-use std::process::{Child, Command, OpenProcess, Processes, Stdio};
+use std::os::fd::AsRawFd;
+use std::process::{Child, ChildStdout, Command, Processes, Stdio, SystemProcess};
+use std::rt::{Clock, Stderr};
 
 /// How many bytes of a child's output are read at once, at most: as many as a Linux pipe holds. The
 /// child can then fill the pipe again while they are compared.
 const READ_AHEAD: usize = 65_536;
 
 /// The output of a child.
-type Output<R> = BufReader<<<R as Processes>::Started as OpenProcess>::Stdout>;
+type Output = BufReader<ChildStdout>;
 
-/// Starts programs of the system. A child's input is empty, its output is a pipe, and its standard
-/// error is dropped. Contracts know neither the arguments nor the bytes nor the exit statuses of
-/// its children.
+/// Starts programs of the system. A child's input is empty, and its output is a pipe. What it writes
+/// to its standard error is written on, line by line, each with `child K: ` in front. Contracts know
+/// neither the arguments nor the bytes nor the exit statuses of its children.
 ///
 /// A call fails if the system does, and if memory runs out for one more child or its arguments. An
 /// end without an exit status, as after a signal, is a failure too. An interrupted read is tried
@@ -25,19 +28,28 @@ type Output<R> = BufReader<<<R as Processes>::Started as OpenProcess>::Stdout>;
 ///
 /// - A name without a slash is looked for in `PATH`.
 /// - `read` waits until a child writes or closes its output, and `finish` waits until it ends. Both
-///   can wait for ever, and no contract promises otherwise.
+///   can wait for ever, and no contract promises otherwise. With a limit of some seconds, a `read`
+///   fails that waited so long, and `finish` kills the child after that time.
+/// - What children write to their standard error is passed on while one of them is waited for.
+///   Nothing else is waited for: if another process holds the pipe, what it writes after the
+///   child's end is dropped.
 /// - A read meets the end of an output only when every process that holds the pipe has closed it. A
 ///   process that the child started can delay that beyond the child's own end.
 /// - `finish` kills a child unless a read met the end of its output. If the child was about to end
 ///   by itself, it has an exit status or none, depending on what comes first.
 /// - Dropping the spawner leaves the children running that weren't given to `finish`.
 #[derive(Drop)]
-pub struct ProcessSpawner<R: Processes> {
+pub struct ProcessSpawner<R: Processes<Started = SystemProcess>> {
     rt: R,
     alloc: Global,
-    children: Vec<Child<R::Started>>,
+    // The most seconds to wait for a child that writes nothing, or no limit.
+    limit: Option<u32>,
+    // The last child for which that time was up.
+    late: Option<u32>,
+    children: Vec<Child<SystemProcess>>,
     // The outputs of the children. A child that was given to `finish` has none.
-    outputs: Vec<Option<Output<R>>>,
+    outputs: Vec<Option<Output>>,
+    errors: ErrorPipes,
     // For each child, whether a read met the end of its output.
     at_end: Vec<bool>,
     // For each child, whether it was given to `finish`.
@@ -52,20 +64,24 @@ pub struct ProcessSpawner<R: Processes> {
     ghost one_loss_each: { vec_len lost ≡ vec_len finished },
 }
 
-impl<R: Processes + Copy> ProcessSpawner<R> {
+impl<R: Processes<Started = SystemProcess> + Copy> ProcessSpawner<R> {
     ghost use Rattle.std.specs.Prelude.{◌≡◌, []};
     ghost use Rattle.lane.specs.child_processes.Processes.{opaque_state};
     ghost use Rattle.lane.specs.child_processes.ProcessSpawner.{process_state};
 
-    /// A spawner without children.
-    pub fn new(rt: &R, alloc: Global) -> ProcessSpawner<R>
+    /// A spawner without children, which waits `limit` seconds for a child that writes nothing. What
+    /// children write to their standard error goes to `err`.
+    pub fn new(rt: &R, alloc: Global, err: Stderr, limit: Option<u32>) -> ProcessSpawner<R>
         ensures { process_state result ≡ opaque_state [] [] 0 }
     {
         ProcessSpawner {
             rt: *rt,
             alloc,
+            limit,
+            late: None,
             children: Vec::new(alloc),
             outputs: Vec::new(alloc),
+            errors: ErrorPipes::new(alloc, err),
             at_end: Vec::new(alloc),
             finished: Vec::new(alloc),
             lost: Vec::new(alloc),
@@ -74,7 +90,7 @@ impl<R: Processes + Copy> ProcessSpawner<R> {
     }
 }
 
-impl<R: Processes> ProcessSpawner<R> {
+impl<R: Processes<Started = SystemProcess>> ProcessSpawner<R> {
     ghost use Rattle.std.specs.Prelude.{◌≡◌, ◌≤◌, ◌++◌, ◌∷◌, [], length, false, IfSome, IfNone};
     ghost use Rattle.std.specs.Prelude.{OnErr};
     ghost use Rattle.det_io.specs.Count.{Rose};
@@ -83,8 +99,13 @@ impl<R: Processes> ProcessSpawner<R> {
     ghost use Rattle.lane.specs.child_processes.ProcessSpawner.{process_state, finished_of};
     ghost use Rattle.lane.specs.child_processes.ProcessSpawner.{lost_of, HasRoom};
 
+    /// The last child that wrote nothing for as long as the limit.
+    pub fn late(&self) -> Option<u32> {
+        self.late
+    }
+
     // Adds a child that was started.
-    fn keep(&mut self, child: Child<R::Started>, output: Output<R>)
+    fn keep(&mut self, child: Child<SystemProcess>, output: Output)
         requires { HasRoom self.old }
         ensures { process_state self.new
             ≡ opaque_state (finished_of self.old ++ false ∷ []) (lost_of self.old ++ false ∷ [])
@@ -111,11 +132,14 @@ impl<R: Processes> ProcessSpawner<R> {
         self.at_end.reserve(1).ok()?;
         self.finished.reserve(1).ok()?;
         self.lost.reserve(1).ok()?;
+        self.errors.make_room(number).ok()?;
         let mut child = spawn_child(&self.rt, self.alloc, words).ok()?;
-        let Some(output) = child_output::<R>(self.alloc, &mut child) else {
-            let _ = wait_for_child::<R>(&mut child, false);
+        let Some(output) = child_output(self.alloc, &mut child) else {
+            let _ = child.kill();
+            let _ = child.wait();
             return None;
         };
+        self.errors.add(number, child.stderr.take());
         self.keep(child, output);
         Some(number)
     }
@@ -136,7 +160,7 @@ impl<R: Processes> ProcessSpawner<R> {
     }
 }
 
-impl<R: Processes + Copy> Spawner for ProcessSpawner<R> {
+impl<R: Processes<Started = SystemProcess> + Clock + Copy> Spawner for ProcessSpawner<R> {
     ghost use Rattle.std.specs.Prelude.{◌≡◌, ◌<◌, false, IfOk};
     ghost use Rattle.std.specs.Result.{is_err};
     ghost use Rattle.lane.specs.child_processes.Spawners.{Finishes, Fixed, StatusIs};
@@ -154,7 +178,12 @@ impl<R: Processes + Copy> Spawner for ProcessSpawner<R> {
         if self.finished[index] {
             return Ok(0);
         }
-        let moved = read_child_output::<R>(&mut self.outputs[index], buf);
+        let waited = await_output(&self.rt, &mut self.errors, &self.outputs[index], self.limit);
+        self.late = late_child(waited, child).or(self.late);
+        let moved = match waited {
+            Ok(()) => read_child_output(&mut self.outputs[index], buf),
+            Err(_) => Err(SpawnFailed),
+        };
         if moved == Ok(0) && !buf.is_empty() {
             self.at_end[index] = true;
         }
@@ -173,19 +202,27 @@ impl<R: Processes + Copy> Spawner for ProcessSpawner<R> {
     {
         let index = child as usize;
         self.finished[index] = true;
-        let is_at_end = self.at_end[index];
+        if !self.at_end[index] {
+            let _ = self.children[index].kill();
+        }
+        let waited = self
+            .errors
+            .await_end(&self.rt, &mut self.children[index], self.limit);
+        self.late = late_child(waited, child).or(self.late);
+        let is_read = self.errors.finish(index).is_ok() && waited != Err(WaitFault::Failed);
+        // Only now, so that a process of the child that goes on doesn't complain of it above.
         self.outputs[index] = None;
-        let status = wait_for_child::<R>(&mut self.children[index], is_at_end);
+        let status = end_of_child(&mut self.children[index], is_read);
         self.lost[index] = status.is_err();
         status
     }
 }
 
-fn spawn_child<R: Processes>(
+fn spawn_child<R: Processes<Started = SystemProcess>>(
     rt: &R,
     alloc: Global,
     words: &[String],
-) -> io::Result<Child<R::Started>>
+) -> io::Result<Child<SystemProcess>>
     requires { 0 < length words.now }
 {
     let mut command = Command::new(alloc, words[0].as_str())?;
@@ -195,21 +232,41 @@ fn spawn_child<R: Processes>(
     command
         .stdin(Stdio::null())
         .stdout(Stdio::piped())
-        .stderr(Stdio::null())
+        .stderr(Stdio::piped())
         .spawn(rt)
 }
 
 // The output of a child that was just started. None if there is no memory for its buffer.
-fn child_output<R: Processes>(alloc: Global, child: &mut Child<R::Started>) -> Option<Output<R>> {
+fn child_output(alloc: Global, child: &mut Child<SystemProcess>) -> Option<Output> {
     let pipe = child.stdout.take()?;
     BufReader::with_capacity(alloc, READ_AHEAD, pipe).ok()
 }
 
+// Waits until a read of a child's output doesn't wait.
+fn await_output<R: Clock>(
+    rt: &R,
+    errors: &mut ErrorPipes,
+    output: &Option<Output>,
+    limit: Option<u32>,
+) -> Result<(), WaitFault> {
+    match output {
+        Some(output) if output.buffer().is_empty() => {
+            errors.await_output(rt, output.get_ref().as_raw_fd(), limit)
+        }
+        _ => Ok(()),
+    }
+}
+
+// The child for which the time was up.
+fn late_child(waited: Result<(), WaitFault>, child: u32) -> Option<u32> {
+    match waited {
+        Err(WaitFault::Late) => Some(child),
+        _ => None,
+    }
+}
+
 // Reads once from a child's output. A child without an output is a failure.
-fn read_child_output<R: Processes>(
-    output: &mut Option<Output<R>>,
-    buf: &mut [u8],
-) -> Result<usize, SpawnFailed>
+fn read_child_output(output: &mut Option<Output>, buf: &mut [u8]) -> Result<usize, SpawnFailed>
     ensures { IfOk result (λ n. n ≤ length buf.old) }
 {
     match output.as_mut() {
@@ -218,18 +275,15 @@ fn read_child_output<R: Processes>(
     }
 }
 
-// Waits for the end of a child whose output isn't read any more. A child that may still write is
-// killed first.
-fn wait_for_child<R: Processes>(
-    child: &mut Child<R::Started>,
-    is_at_end: bool,
-) -> Result<u8, SpawnFailed>
+// The exit status of a child that has ended, or was killed. A failure if its standard error wasn't
+// read.
+fn end_of_child(child: &mut Child<SystemProcess>, is_read: bool) -> Result<u8, SpawnFailed>
     ensures { IfOk result (λ status. code_of child.new ≡ Some (pos status)) }
 {
-    if !is_at_end {
-        let _ = child.kill();
-    }
     let status = child.wait().map_err(|_| SpawnFailed)?;
+    if !is_read {
+        return Err(SpawnFailed);
+    }
     let code = status.code().ok_or(SpawnFailed)?;
     u8::try_from(code).map_err(|_| SpawnFailed)
 }

@@ -15,7 +15,7 @@ returns c =
     let small : length c.args.out.now < 18446744073709551615 = search rules in
     let le : c.put_drawn-needed.result ≤ length c.args.out.now = search rules in
     let format = format_of c.args.run.now.state.format in
-    let same : c.format-kept.result ≡ format = c.format-kept.ensures in
+    let same : c.format_from_number-kept.result ≡ format = c.format_from_number-kept.ensures in
     let fits = counted_fit _ _ _ c.args.out.now _ (puts_drawn _ _ _ _ _ _ _ _ same c.put_drawn-needed.ensures.puts) le small in (
       some,
       short,

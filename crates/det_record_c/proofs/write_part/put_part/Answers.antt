@@ -17,14 +17,14 @@ pub returns-in-Finished-clause-puts : goal.returns-in-Finished-clause-puts
 returns-in-Finished-clause-puts c =
     subst (λ (p : Part). Puts 0 (spelling_in c.args.state.now (item_in c.args.state.now p)) c.args.out.now c.put_finished.result
     c.put_finished.new.out) (sym c.in-Finished.is)
-    (finished_puts c.format-kept.result (format_of c.args.state.now.format) c.in-Finished.time.now c.in-Finished.samples.now
-    c.in-Finished.elements.now c.in-Finished.output.now _ _ _ c.format-kept.ensures c.put_finished.ensures.puts)
+    (finished_puts c.format_from_number-kept.result (format_of c.args.state.now.format) c.in-Finished.time.now c.in-Finished.samples.now
+    c.in-Finished.elements.now c.in-Finished.output.now _ _ _ c.format_from_number-kept.ensures c.put_finished.ensures.puts)
 
 pub returns-in-Finished-clause-fields : goal.returns-in-Finished-clause-fields
 returns-in-Finished-clause-fields c =
     subst (λ (p : Part). HasFields c.args.state.now (item_in c.args.state.now p)) (sym c.in-Finished.is)
-    (finished_fields c.format-kept.result (format_of c.args.state.now.format) c.args.state.now.events c.in-Finished.time.now
-    c.in-Finished.samples.now c.in-Finished.elements.now c.in-Finished.output.now c.format-kept.ensures c.put_finished.ensures.time
+    (finished_fields c.format_from_number-kept.result (format_of c.args.state.now.format) c.args.state.now.events c.in-Finished.time.now
+    c.in-Finished.samples.now c.in-Finished.elements.now c.in-Finished.output.now c.format_from_number-kept.ensures c.put_finished.ensures.time
     c.put_finished.ensures.elements c.put_finished.ensures.output
     (subst (λ (p : Part). IsSound c.args.state.now p) c.in-Finished.is c.requires))
 

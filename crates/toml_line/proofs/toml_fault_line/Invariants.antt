@@ -1,5 +1,5 @@
 use Rattle.std.proofs.Common.{◌≤◌, ◌+◌}
-use Rattle.hints_on_files.proofs.manifests.toml_fault_line.Given as goal
+use Rattle.toml_line.proofs.toml_fault_line.Given as goal
 
 -- a line more for each line feed so far
 abbrev pub invariant-loop-byte : goal.invariant-loop-byte

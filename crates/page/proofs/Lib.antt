@@ -1,0 +1,5 @@
+pub mod Walking
+pub mod Laying
+pub mod RunRows
+pub mod LentSlots
+pub mod CopySlots

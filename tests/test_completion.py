@@ -1,0 +1,182 @@
+"""The completions for bash: made from the programs' texts, and what they offer.
+
+A completion is called as bash calls it: the function that it registers gets the words in
+COMP_WORDS and leaves its offers in COMPREPLY. Nothing but bash is needed.
+"""
+
+from __future__ import annotations
+
+import re
+import shutil
+import sys
+from pathlib import Path
+
+import pytest
+
+from commands import NAMES, TOP, Bench, Outcome, run
+from test_pages import COMMANDS, OPTIONS, takes
+
+SOURCES = ("tools/*.py", "tools/completion.bash", "completions/*", "crates/*/src/*_usage.rt")
+TEXTS = ("crates/*/src/pages.rt", "crates/cli_words/src/table.rt")
+SCRIPT = """source "$0"; COMP_WORDS=("$@"); COMP_CWORD=$(($# - 1))
+registered=$(complete -p "$1"); function=${registered#*-F }
+"${function%% *}"; printf '%s\\n' "${COMPREPLY[@]}"
+"""
+FILES = ("a.toml", "b.toml", "a.stim", "a.rec", "b.rec", "folder/c.toml", "other/plain")
+NUMBERS = {str(it) for it in range(2, 9)}
+FIRST = {*COMMANDS, "help", "version"}
+MANIFESTS, FOLDERS = {"a.toml", "b.toml"}, {"folder", "other"}
+RECORDS = {"a.rec", "b.rec", *FOLDERS}
+# What is typed, the last word unfinished, and what is offered for that word.
+OFFERS = {
+    "det ": FIRST,
+    "det s": {"show", "sim", "salvage"},
+    "det -": {"--help", "-h", "--version", "-V"},
+    "det --h": {"--help"},
+    "det --help ": set(COMMANDS),
+    "det help sh": {"show"},
+    "det version ": set(),
+    "det unknown ": set(),
+    "det record ": MANIFESTS | FOLDERS,
+    "det record b": {"b.toml"},
+    "det record folder/": {"folder/c.toml"},
+    "det record other/": {"other/plain"},
+    "det record a.toml ": {"a.stim"} | FOLDERS,
+    "det record a.toml a.stim ": {"--seed", "--workers", "--strict"},
+    "det record a.toml a.stim --w": {"--workers"},
+    "det record a.toml a.stim --workers ": set(),
+    "det record a.toml a.stim --workers 4 ": {"--seed", "--strict"},
+    "det record --seed 7 ": MANIFESTS | FOLDERS,
+    "det record --seed 7 a.toml -": {"--workers", "--strict"},
+    "det record -": {"--seed", "--workers", "--strict", "--help"},
+    "det show a.rec ": {"--reports", "--cycle"},
+    "det show a.rec --reports -": set(),
+    "det show a.rec --cycle 2 ": set(),
+    "det demo ": {"a.stim"} | FOLDERS,
+    "det demo a.stim ": set(),
+    "det sim ": set(),
+    "det chain a.toml ": MANIFESTS | FOLDERS,
+    "det compare a.rec ": RECORDS,
+    "det compare" + 7 * " a.rec" + " ": RECORDS,
+    "det compare" + 8 * " a.rec" + " ": set(),
+    "det vote a.rec a.rec a.rec ": RECORDS | {"--dissent"},
+    "det vote" + 7 * " a.rec" + " ": {"--dissent"},
+    "det_lane det_t": {"det_twin"},
+    "det_lane --": {"--help", "--version"},
+    "det_lane det ": NUMBERS,
+    "det_lane det 3 ": MANIFESTS | FOLDERS,
+    "det_lane det 3 a.toml ": {"a.stim"} | FOLDERS,
+    "det_lane det 3 a.toml a.stim ": {"--timeout", "--"},
+    "det_lane det 3 a.toml a.stim --timeout ": set(),
+    "det_lane det 3 a.toml a.stim --timeout 5 ": {"--"},
+    "det_lane det 3 a.toml a.stim -- ": set(),
+    "det_lane det 3 a.toml a.stim -- --s": set(),
+    "det_twin ": NUMBERS,
+    "det_twin 3 a.toml a.stim ": {"--flip", "--strict"},
+    "det_twin 3 a.toml a.stim --flip ": set(),
+    "det_twin 3 a.toml a.stim --flip 1 ": set(),
+    "det_twin 3 a.toml a.stim --flip 1 4 ": {"--strict"},
+}
+
+
+def offers(bench: Bench, typed: str, top: Path = TOP) -> list[str]:
+    """What is offered for the last word of a line."""
+    words = typed.split(" ")
+    path = top / "completions" / words[0]
+    given = bench.run("bash", "--norc", "-c", SCRIPT, path, *words)
+    assert (given.status, given.err) == (0, b""), str(given)
+    return [line for line in given.out.decode().split("\n") if line]
+
+
+@pytest.fixture
+def typing(bench: Bench) -> Bench:
+    """A folder with the files that are offered."""
+    for name in FILES:
+        (bench.folder / name).parent.mkdir(exist_ok=True)
+        bench.file(name, "")
+    return bench
+
+
+@pytest.mark.parametrize("typed", OFFERS)
+def test_offers(typed: str, typing: Bench) -> None:
+    given = offers(typing, typed)
+    assert set(given) == OFFERS[typed]
+    assert len(given) == len(set(given)), "it offers a word twice"
+
+
+@pytest.mark.parametrize("command", COMMANDS)
+def test_options_are_those_of_the_program(command: str, bench: Bench) -> None:
+    """A command is offered the options that the program takes with it, and no other ones."""
+    given = set(offers(bench, f"det {command} -")) - {"--help"}
+    assert given == {it for it in OPTIONS if takes(bench, command, it)}
+
+
+def test_a_name_with_spaces(typing: Bench) -> None:
+    """A name is one offer, whatever is in it."""
+    typing.file("my file.toml", "")
+    assert offers(typing, "det record my") == ["my file.toml"]
+
+
+def completion(top: Path, word: str) -> Outcome:
+    """Runs the tool of a copy of the repository."""
+    return run([sys.executable, "-B", top / "tools" / "completion.py", word], top)
+
+
+@pytest.fixture
+def copy(tmp_path: Path) -> Path:
+    """A folder with the tool and what it reads."""
+    for pattern in (*SOURCES, *TEXTS):
+        for path in TOP.glob(pattern):
+            to = tmp_path / path.relative_to(TOP)
+            to.parent.mkdir(parents=True, exist_ok=True)
+            shutil.copy(path, to)
+    return tmp_path
+
+
+def test_files_are_those_of_their_sources() -> None:
+    assert completion(TOP, "--check") == Outcome(0, b"", b"")
+    assert {it.name for it in (TOP / "completions").iterdir()} == set(NAMES)
+
+
+CHANGES = {
+    "a file": ("completions/det", "--cycle:1:", "--cycle:0:"),
+    "a page": ("crates/det_cli/src/pages.rt", "det show RECORD [--rep", "det show RECORD [--xrep"),
+    "the table": ("crates/cli_words/src/table.rt", '"compare", 2, 8', '"compare", 2, 9'),
+    "the code": ("tools/completion.bash", "sort -u", "sort"),
+}
+
+
+@pytest.mark.parametrize("source, old, new", CHANGES.values(), ids=CHANGES)
+def test_a_change_is_reported_until_the_file_is_written(
+    copy: Path, source: str, old: str, new: str
+) -> None:
+    text = (copy / source).read_text()
+    assert text.count(old) == 1
+    (copy / source).write_text(text.replace(old, new))
+    done = completion(copy, "--check")
+    assert done.status == 1 and b"differs: completions/det\n" in done.out, str(done)
+    assert completion(copy, "--write").status == 0
+    assert completion(copy, "--check") == Outcome(0, b"", b"")
+
+
+# Forms of a synopsis that no command has: alternatives of several options, and all further words.
+SHOW = "[--reports | [--cycle C] [--all]] [--flip K F] [-- WORD..]"
+OTHER_OFFERS = {
+    "det show a ": {"--reports", "--cycle", "--all", "--flip", "--"},
+    "det show a --reports ": {"--flip", "--"},
+    "det show a --all ": {"--cycle", "--flip", "--"},
+    "det show a --cycle 1 --all -": {"--flip", "--"},
+    "det show a --flip 1 ": set(),
+    "det show a -- b c ": set(),
+}
+
+
+@pytest.mark.parametrize("typed", OTHER_OFFERS)
+def test_other_forms(typed: str, copy: Path, bench: Bench) -> None:
+    pages = copy / "crates/det_cli/src/pages.rt"
+    text = pages.read_text()
+    head = re.search(r"^det show RECORD .*$", text, re.MULTILINE)
+    assert head
+    pages.write_text(text.replace(head[0], f"det show RECORD {SHOW}"))
+    assert completion(copy, "--write").status == 0
+    assert set(offers(bench, typed, copy)) == OTHER_OFFERS[typed]

@@ -1,0 +1,261 @@
+"""Many records and many machines: the scripts of examples/many and examples/ci, over GNU parallel,
+a Slurm cluster of this machine alone, ssh servers on its loopback, and the command of a workflow.
+
+The commands of docs/MANY.md that aren't in console blocks are run here, over such a cluster and
+such servers. They need Debian's parallel, slurm-wlm, openssh-server, openssh-client and shellcheck.
+"""
+
+from __future__ import annotations
+
+import re
+import shutil
+from pathlib import Path
+from typing import Iterator
+
+import pytest
+
+from commands import TOP, Bench, Outcome, run
+from documents import section
+from servers import MANY, Hosts, NotBegun, path_of, running_cluster, running_hosts, shell
+
+CI = TOP / "examples" / "ci"
+CLOUD = (TOP / "examples" / "cloud.toml", TOP / "examples" / "cloud.stim")
+# A program that flips the last bit of the header's seed if it has two workers.
+FLIPPING = """#!/bin/sh
+[ "$5" = 2 ] || exec "{det}" "$@"
+"{det}" "$@" | python3 -c 'import sys; b = bytearray(sys.stdin.buffer.read()); b[17] ^= 1
+sys.stdout.buffer.write(b)'
+"""
+
+
+def indented(heading: str) -> str:
+    """The indented lines below a heading of docs/MANY.md."""
+    lines = section("docs/MANY.md", heading).splitlines()
+    found = [line[4:] for line in lines if line.startswith("    ")]
+    assert found, heading
+    return "\n".join(found)
+
+
+def write_records(bench: Bench, count: int) -> None:
+    """Records of the bank in the folder `runs`. The second departs, and the last is torn."""
+    (bench.folder / "runs").mkdir()
+    record = bytearray(bench.example("bank"))
+    for number in range(count):
+        (bench.folder / "runs" / f"{number:04}.rec").write_bytes(record)
+    (bench.folder / "runs" / f"{count - 1:04}.rec").write_bytes(record[:300])
+    # The level of element 2 in cycle 2, as the tutorial has it.
+    record[277] += 1
+    (bench.folder / "runs" / "0001.rec").write_bytes(record)
+
+
+def summary_of(count: int) -> str:
+    """The summary of those records."""
+    fault = "bad record: copy 0 offset 300 truncated"
+    lines = [f"records {count}", f"status 0 {count - 2}", "status 1 1", "status 5 1"]
+    lines += ["1\truns/0001.rec\tdeparts element 2 2", f"5\truns/{count - 1:04}.rec\t{fault}"]
+    return "".join(f"{line}\n" for line in lines)
+
+
+def job_log(bench: Bench) -> list[tuple[str, str, str]]:
+    """The status, the signal and the last word of each command in the job log of parallel."""
+    lines = (bench.folder / "results.log").read_text().splitlines()[1:]
+    rows = [line.split("\t") for line in lines]
+    return [(row[6], row[7], row[8].split()[-1]) for row in rows]
+
+
+def test_scripts() -> None:
+    """shellcheck finds nothing in the scripts."""
+    scripts = sorted([*MANY.glob("*.sh"), *CI.glob("*.sh")])
+    assert len(scripts) > 5
+    given = run([path_of("shellcheck"), "-x", *scripts], TOP)
+    assert given == Outcome(0, b"", b""), given.out.decode()
+
+
+@pytest.mark.slow
+def test_thousand_records(bench: Bench) -> None:
+    """A thousand records: a summary names the two that aren't genuine, and so does the job log."""
+    path_of("parallel")
+    write_records(bench, 1000)
+    given = shell(bench, 'bash "$many/check_all.sh" runs results')
+    assert (given.status, given.out.decode()) == (1, summary_of(1000)), str(given)
+    lines = [line.split("\t") for line in (bench.folder / "results").read_text().splitlines()]
+    assert [line[1] for line in lines] == [f"runs/{number:04}.rec" for number in range(1000)]
+    assert {tuple(line[2:]) for line in lines if line[0] == "0"} == {("genuine 3", "")}
+    failed = [it for it in job_log(bench) if it[:2] != ("0", "0")]
+    assert sorted(failed) == [("1", "0", "runs/0001.rec"), ("5", "0", "runs/0999.rec")]
+
+
+def test_all_are_genuine(bench: Bench) -> None:
+    """Names with spaces and other letters are kept; without a record the status is 2."""
+    path_of("parallel")
+    record = bench.example("bank")
+    (bench.folder / "a 'b").mkdir()
+    for name in ("x y.rec", "$HOME.rec", "{}.rec", "line\nend.rec", "tab\t.rec"):
+        (bench.folder / "a 'b" / name).write_bytes(record)
+    given = shell(bench, '''bash "$many/check_all.sh" "a 'b" results 2''')
+    assert given == Outcome(0, b"records 5\nstatus 0 5\n", b""), str(given)
+    names = [it.split("\t")[1] for it in (bench.folder / "results").read_text().splitlines()]
+    assert len(names) == 5 and {"a 'b/x y.rec", "a 'b/$HOME.rec", "a 'b/{}.rec"} <= set(names)
+    (bench.folder / "none").mkdir()
+    assert shell(bench, 'bash "$many/check_all.sh" none results').status == 2
+
+
+def test_killed_check(bench: Bench) -> None:
+    """A check that is killed isn't a genuine record: its line is missing, and the status is 3."""
+    path_of("parallel")
+    write_records(bench, 4)
+    # det's parent is the script, or a process of it that waits for det's output.
+    text = """#!/bin/sh
+[ "$2" = runs/0002.rec ] || exit 0
+for it in $(cut -d ' ' -f 4 /proc/$PPID/stat) $PPID; do
+    head -c 5 /proc/$it/cmdline | grep -aq '^bash' && kill -9 $it
+done
+"""
+    Path(bench.file("det", text)).chmod(0o755)
+    environment = bench.programs.environment()
+    path = f"{bench.folder}:{environment['PATH']}"
+    given = shell(bench, 'bash "$many/check_all.sh" runs results', PATH=path)
+    assert given.status == 3 and given.out.startswith(b"records 3\n"), str(given)
+    assert given.err.endswith(b"records without a result: 1\n"), str(given)
+    assert [it[1:] for it in job_log(bench) if it[1] != "0"] == [("9", "runs/0002.rec")]
+
+
+def test_two_folders(bench: Bench) -> None:
+    """Records of two folders are compared by their names; a missing one is a read fault."""
+    path_of("parallel")
+    write_records(bench, 4)
+    shutil.copytree(bench.folder / "runs", bench.folder / "other")
+    (bench.folder / "other" / "0001.rec").write_bytes(bench.example("bank"))
+    (bench.folder / "other" / "0002.rec").unlink()
+    given = shell(bench, 'bash "$many/compare_all.sh" runs other results')
+    assert given.status == 1, str(given)
+    assert given.out.decode().splitlines() == [
+        "records 4",
+        "status 0 1",
+        "status 1 1",
+        "status 5 1",
+        "status 6 1",
+        "1\truns/0001.rec other/0001.rec\tdiffer copy 1 element 2 2",
+        "5\truns/0003.rec other/0003.rec\tbad record: copy 0 offset 300 truncated",
+        "6\truns/0002.rec other/0002.rec\tread fault",
+    ]
+    hints = (bench.folder / "results").read_text().splitlines()[2].split("\t")[3]
+    assert hints.startswith("other/0002.rec: No such file"), hints
+
+
+def task_names(bench: Bench, tasks: int) -> list[list[str]]:
+    """The names in the results of each task."""
+    texts = [(bench.folder / f"results.{task}").read_text() for task in range(tasks)]
+    return [[line.split("\t")[1] for line in text.splitlines()] for text in texts]
+
+
+def test_tasks_without_cluster(bench: Bench) -> None:
+    """Three tasks take ten records in turn, and end with 1 if one of theirs isn't genuine."""
+    write_records(bench, 10)
+    assert shell(bench, "find runs -name '*.rec' | sort > list").status == 0
+    call = 'bash "$many/slurm_check.sh" "$many" list results'
+    statuses = []
+    for task in "012":
+        given = shell(bench, call, SLURM_ARRAY_TASK_ID=task, SLURM_ARRAY_TASK_COUNT="3")
+        statuses.append(given.status)
+    # The second record departs, the last is torn.
+    assert statuses == [1, 1, 0]
+    expected = [[f"runs/{it:04}.rec" for it in range(task, 10, 3)] for task in range(3)]
+    assert task_names(bench, 3) == expected
+    given = shell(bench, 'bash "$many/summary.sh" results.*')
+    assert (given.status, given.out.decode()) == (1, summary_of(10))
+    assert shell(bench, call).status != 0
+
+
+@pytest.fixture
+def cluster(bench: Bench) -> Iterator[dict[str, str]]:
+    try:
+        with running_cluster(bench) as variables:
+            yield variables
+    except NotBegun as why:
+        pytest.skip(f"no cluster begins here: {why}")
+
+
+@pytest.mark.slow
+def test_cluster(bench: Bench, cluster: dict[str, str]) -> None:
+    """The commands of the page, over a cluster: four tasks take ten records in turn."""
+    path_of("sbatch")
+    write_records(bench, 10)
+    given = shell(bench, indented("## A cluster with Slurm"), **cluster)
+    logs = "".join(it.read_text() for it in bench.folder.glob("det-check-*.txt"))
+    assert given.out.decode().endswith(f"not all genuine\n{summary_of(10)}"), f"{given} {logs}"
+    assert given.status == 1
+    expected = [[f"runs/{it:04}.rec" for it in range(task, 10, 4)] for task in range(4)]
+    assert task_names(bench, 4) == expected
+
+
+@pytest.fixture
+def hosts(bench: Bench) -> Iterator[Hosts]:
+    with running_hosts(bench) as there:
+        yield there
+
+
+def lane(bench: Bench, hosts: Hosts, copies: int, names: str, **variables: str) -> Outcome:
+    """A lane of the cloud on hosts of these names."""
+    files = " ".join(f"'{it}'" for it in CLOUD)
+    given = {"DET_HOSTS": names, **hosts.variables, **variables}
+    return shell(bench, f'det_lane "$many/on_hosts.sh" {copies} {files}', **given)
+
+
+def test_lane_of_the_page(bench: Bench, hosts: Hosts) -> None:
+    """The commands of the page."""
+    given = shell(bench, indented("## Copies on several hosts"), **hosts.variables)
+    assert given == Outcome(0, b"agree 4\n", b""), str(given)
+
+
+def test_lane_on_hosts(bench: Bench, hosts: Hosts) -> None:
+    """More copies than hosts agree; a copy that flips a bit is named, and so is a missing host."""
+    assert lane(bench, hosts, 5, "one two") == Outcome(0, b"agree 4\n", b"")
+    flipping = Path(bench.file("flipping", FLIPPING.format(det=bench.programs.path("det"))))
+    flipping.chmod(0o755)
+    given = lane(bench, hosts, 3, "one two three", DET_REMOTE=str(flipping))
+    assert given == Outcome(1, b"differ copy 1 header\n", b""), str(given)
+    given = lane(bench, hosts, 2, "one none")
+    assert (given.status, given.line()) == (9, b"child 1 status 255"), str(given)
+
+
+def test_refused_on_hosts(bench: Bench, hosts: Hosts) -> None:
+    """What det refuses on a host is its child's status; names of files may have spaces."""
+    shutil.copy(CLOUD[0], bench.folder / "of the cloud.toml")
+    shutil.copy(CLOUD[1], bench.folder / "its stimulus")
+    bench.file("bad.toml", "job = 1\n")
+    given = {"DET_HOSTS": "one", **hosts.variables}
+    text = 'det_lane "$many/on_hosts.sh" 2 {} "its stimulus"'
+    assert shell(bench, text.format('"of the cloud.toml"'), **given).out == b"agree 4\n"
+    refused = shell(bench, text.format("bad.toml"), **given)
+    assert (refused.status, refused.line()) == (9, b"child 0 status 3"), str(refused)
+
+
+def command_of_workflow() -> str:
+    """The command of the workflow. The other steps are actions of GitHub's."""
+    found = re.findall(r"^ +run: (.+)$", (CI / "records.yml").read_text(), re.M)
+    assert len(found) == 1
+    return found[0]
+
+
+def test_workflow(bench: Bench) -> None:
+    """The workflow's command, at the top of a checkout, passes, and leaves what is uploaded."""
+    (bench.folder / "examples").symlink_to(TOP / "examples")
+    given = shell(bench, command_of_workflow())
+    assert given.status == 0 and given.out.endswith(b"agree 4\n"), str(given)
+    kept = re.findall(r"^ +path: (.+)$", (CI / "records.yml").read_text(), re.M)
+    names = sorted(it.name for it in (bench.folder / kept[0]).iterdir())
+    assert names == ["verdict.txt", *(f"workers-{it}.rec" for it in (1, 2, 4, 8))]
+    assert (bench.folder / kept[0] / "verdict.txt").read_bytes() == given.out
+
+
+def test_workflow_finds_a_difference(bench: Bench) -> None:
+    """If a number of workers changes a record, the command fails and the records are kept."""
+    (bench.folder / "examples").symlink_to(TOP / "examples")
+    # The script's words are those of a lane: `record MANIFEST STIM --workers K`.
+    text = FLIPPING.format(det=bench.programs.path("det"))
+    Path(bench.file("det", text)).chmod(0o755)
+    path = f"{bench.folder}:{bench.programs.environment()['PATH']}"
+    given = shell(bench, command_of_workflow(), PATH=path)
+    assert given.status == 1 and given.out.endswith(b"differ copy 1 header\n"), str(given)
+    assert len(list((bench.folder / "out" / "records").glob("*.rec"))) == 4

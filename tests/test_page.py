@@ -1,0 +1,260 @@
+"""The page that compares records in a browser: in Chromium and in Firefox it says what `det
+compare` and `det show` say, and shows the values that tools/det_record.py reads."""
+
+from __future__ import annotations
+
+import io
+import random
+import re
+import tempfile
+from pathlib import Path
+from typing import Any, Iterator, Optional, Sequence
+
+import pytest
+
+from browsers import CHROMIUM, FIREFOX, Browser, Lacking, opened
+from builds import build_page
+from commands import Outcome
+from det_record import BadRecord, Finished, RecordReader, Refused, Run
+from mutations import changed_record
+from record_bench import RecordBench
+from record_bytes import mixed_record
+
+# How many draws of copies a browser compares.
+DRAWS = {CHROMIUM: 60, FIREFOX: 15}
+EXACT_CYCLES = 200
+
+# What the page shows, as one value.
+SHOWN = """({
+  verdict: document.getElementById('verdict').textContent,
+  words: document.getElementById('words').textContent,
+  copies: [...document.querySelectorAll('#copies tr')].slice(1)
+    .map((row) => [...row.children].map((it) => it.textContent)),
+  texts: Object.fromEntries([...document.querySelectorAll('pre')]
+    .map((it) => [it.id, it.textContent])),
+  differing: [...document.querySelectorAll('.differing')].map((it) => it.textContent),
+})"""
+
+
+@pytest.fixture(scope="module")
+def page() -> Path:
+    return build_page()
+
+
+@pytest.fixture(scope="module", params=(CHROMIUM, FIREFOX))
+def browser(request: pytest.FixtureRequest, module_folder: Path) -> Iterator[Browser]:
+    folder = Path(tempfile.mkdtemp(prefix=f"{request.param}-", dir=module_folder))
+    try:
+        with opened(request.param, folder) as found:
+            yield found
+    except Lacking as why:
+        pytest.fail(str(why))
+
+
+def load(browser: Browser, page: Path) -> None:
+    """Opens a page and waits until it takes records, or says why it can't."""
+    browser.go(page.resolve().as_uri())
+    browser.wait("document.body.dataset.ready || document.body.dataset.done")
+
+
+def choose(browser: Browser, files: Sequence[str]) -> dict[str, Any]:
+    """Chooses files on the page. Returns what it shows then."""
+    browser.value("(() => { document.getElementById('files').value = ''; "
+                  "delete document.body.dataset.done; return 1 })()")
+    browser.choose([Path(it) for it in files])
+    browser.wait("document.body.dataset.done")
+    assert browser.errors == []
+    return browser.value(SHOWN)
+
+
+def text_of(browser: Browser, cycle: int) -> str:
+    """The text of a cycle, as the module prints it of copy 0."""
+    return browser.value(f"ask('text', 0, {cycle})")
+
+
+def runs_in(data: bytes) -> list[Run]:
+    """The cycles of a record before its end or fault, as Python reads them."""
+    found: list[Run] = []
+    try:
+        found += (it for it in RecordReader(io.BytesIO(data)).items() if isinstance(it, Run))
+    except BadRecord:
+        found = [it for it in items_before(data) if isinstance(it, Run)]
+    return found
+
+
+def items_before(data: bytes) -> list[Any]:
+    """The items before a fault."""
+    found: list[Any] = []
+    try:
+        for item in RecordReader(io.BytesIO(data)).items():
+            found.append(item)
+    except BadRecord:
+        pass
+    return found
+
+
+def expected_verdict(given: Outcome) -> str:
+    """The line that the page shows for an outcome of `det compare`."""
+    return (given.out if given.status in (0, 1) else given.line()).decode().strip()
+
+
+def some_copies(draw: int, records: RecordBench) -> list[bytes]:
+    """Two to four copies: equal, changed, cut, or of other runs."""
+    chance = random.Random(draw)
+    bases = [records.example(it) for it in ("guard", "wheels", "bank")] + [mixed_record(2)]
+    base = chance.choice(bases)
+    copies = [base]
+    for _ in range(chance.choice((1, 1, 2, 3))):
+        kind = chance.randrange(8)
+        if kind < 4:
+            copies.append(changed_record(chance, base))
+        elif kind == 4:
+            copies.append(base[: chance.randrange(len(base))])
+        else:
+            copies.append(base if kind < 7 else chance.choice(bases))
+    chance.shuffle(copies)
+    return copies
+
+
+def name_of(browser: Browser) -> str:
+    return CHROMIUM if type(browser).__name__ == "Chromium" else FIREFOX
+
+
+@pytest.mark.slow
+def test_verdicts_are_those_of_compare(
+    browser: Browser, page: Path, records: RecordBench
+) -> None:
+    """Copies drawn by chance: the verdict, the faults, the numbers of cycles and of refusals, and
+    the text of a cycle of copy 0."""
+    load(browser, page)
+    for draw in range(DRAWS[name_of(browser)]):
+        copies = some_copies(draw, records)
+        files = [records.file(f"{draw}-{k}.rec", it) for k, it in enumerate(copies)]
+        shown = choose(browser, files)
+        assert shown["verdict"] == expected_verdict(records.run("det", "compare", *files)), draw
+        for k, (row, data) in enumerate(zip(shown["copies"], copies)):
+            runs = runs_in(data)
+            refused = sum(isinstance(it.outcome, Refused) for it in runs)
+            fault = records.run("det", "show", files[k]).line().decode()
+            state = re.sub(r"bad record: copy 0 offset (\d+) (\w+)", r"fault at \1: \2", fault)
+            assert row[3:] == [str(len(runs)), str(refused), state or "whole"], (draw, k)
+        cycle = 1 + draw % 5
+        printed = records.run("det", "show", files[0], "--cycle", str(cycle)).out.decode()
+        assert text_of(browser, cycle) == printed, draw
+
+
+def fields_of(data: bytes) -> tuple[list[str], list[str]]:
+    """The header and the lines of the first cycles' elements 0 of a guard, as the page shows them:
+    number, held value and streak, each as docs/FORMATS.md spells it."""
+    lines = []
+    for cycle, run in enumerate(runs_in(data)[:EXACT_CYCLES], 1):
+        numbers = ["-", "-", "-"]
+        if isinstance(run.outcome, Finished):
+            content = run.outcome.elements.content(0)
+            held = int.from_bytes(content[4:12], "big", signed=True)
+            numbers = [str(int.from_bytes(content[:4], "big")), str(held)]
+            numbers.append(str(int.from_bytes(content[12:14], "big")))
+        lines.append("\t".join([str(cycle), *numbers]))
+    return ["number", "held value", "streak"], lines
+
+
+def guard_outputs(data: bytes) -> list[str]:
+    """Corrections of all cycles, and those of the cycle, which a guard's output begins with."""
+    lines = []
+    for cycle, run in enumerate(runs_in(data)[:EXACT_CYCLES], 1):
+        numbers = ["-", "-"]
+        if isinstance(run.outcome, Finished):
+            output = run.outcome.output
+            numbers = [str(int.from_bytes(output[:8], "big"))]
+            numbers.append(str(int.from_bytes(output[8:12], "big")))
+        lines.append("\t".join([str(cycle), *numbers]))
+    return lines
+
+
+def test_numbers_are_those_of_the_record(
+    browser: Browser, page: Path, records: RecordBench
+) -> None:
+    """The values of an element and the outputs of a guard, of which a cycle is refused."""
+    load(browser, page)
+    data = records.example("guard")
+    shown = choose(browser, [records.file("guard.rec", data)])
+    browser.value("showValues(document.createElement('div'), 3, '0').then(() => 1)")
+    names, lines = fields_of(data)
+    values = shown["texts"]["values"].splitlines()
+    assert [it.split("\t")[:4] for it in values[1:]] == [it.split("\t") for it in lines]
+    assert values[0].split("\t")[1:4] == [f"copy 0 element 0 {it}" for it in names]
+    assert shown["texts"]["outputs"].splitlines()[1:] == guard_outputs(data)
+    refusals = [it for it in runs_in(data) if isinstance(it.outcome, Refused)]
+    assert len(shown["texts"]["refusals"].splitlines()) == len(refusals) > 0
+
+
+def differing_cycles(ours: bytes, theirs: bytes) -> int:
+    """In how many cycles two records differ, of those that both have."""
+    return sum(a != b for a, b in zip(runs_in(ours), runs_in(theirs)))
+
+
+def test_map_counts_cycles_that_differ(
+    browser: Browser, page: Path, records: RecordBench
+) -> None:
+    """Two clouds of which one has changed bytes. The difference is said in words."""
+    load(browser, page)
+    data = records.example("cloud")
+    changed = bytearray(data)
+    # The last bytes of elements are draws; a change there keeps the record whole.
+    for at in range(60_000, len(data) - 3_000, 7_919):
+        changed[at] ^= 1
+    files = [records.file("a.rec", data), records.file("b.rec", bytes(changed))]
+    shown = choose(browser, files)
+    count = differing_cycles(data, bytes(changed))
+    assert shown["differing"][0].startswith(f"{count} of {len(runs_in(data))} cycles differ.")
+    found = re.fullmatch(r"differ copy 1 element (\d+) (\d+)", shown["verdict"])
+    assert found and count > 1
+    assert shown["words"].startswith(
+        f"Copy 1 differs from copy 0: element {found[2]} of cycle {found[1]} differs. Copy 0 has "
+        f"number {found[2]}, x "
+    )
+
+
+def test_too_many_records(browser: Browser, page: Path, records: RecordBench) -> None:
+    load(browser, page)
+    data = mixed_record(2)
+    files = [records.file(f"{k}.rec", data) for k in range(9)]
+    assert choose(browser, files)["verdict"] == "9 records: the page takes one to 8"
+    shown = choose(browser, files[:8])
+    assert shown["verdict"] == expected_verdict(records.run("det", "compare", *files[:8]))
+
+
+def test_records_that_are_embedded(
+    browser: Browser, page: Path, records: RecordBench
+) -> None:
+    """A page with two records shows them when it is opened, under their names."""
+    data = records.example("guard")
+    files = [records.file("a <b>.rec", data), records.file("torn.rec", data[:-1])]
+    out = records.folder / "with records.html"
+    given = records.tool("det_page.py", *files, "-o", str(out), "--page", str(page))
+    assert (given.status, given.out, given.err) == (0, b"", b"")
+    load(browser, out)
+    shown = browser.value(SHOWN)
+    assert shown["verdict"] == f"bad record: copy 1 offset {len(data) - 1} truncated"
+    assert [row[1] for row in shown["copies"]] == ["a <b>.rec", "torn.rec"]
+
+
+@pytest.mark.parametrize("count", (0, 9))
+def test_wrong_numbers_of_records(count: int, page: Path, records: RecordBench) -> None:
+    files = [records.file(f"{k}.rec", b"") for k in range(count)]
+    given = records.tool("det_page.py", *files, "--page", str(page))
+    line = f"det_page: {count} records: a page takes one to 8\n"
+    assert (given.status, given.out, given.err.decode()) == (2, b"", line)
+
+
+def test_files_that_are_not_there(page: Path, records: RecordBench) -> None:
+    record = records.file("a.rec", b"")
+    given = records.tool("det_page.py", "none.rec", "--page", str(page))
+    assert (given.status, given.err) == (6, b"det_page: can't read none.rec: "
+                                            b"No such file or directory\n")
+    given = records.tool("det_page.py", record, "--page", record)
+    line = f"det_page: {record} is not a page that takes records\n"
+    assert (given.status, given.err.decode()) == (6, line)
+    given = records.tool("det_page.py", record, "--page", str(page), "-o", "none/page.html")
+    line = b"det_page: can't write the page: No such file or directory\n"
+    assert (given.status, given.err) == (7, line)

@@ -1,0 +1,102 @@
+# Completion of @NAME@ for bash. Made by tools/completion.py from what `@NAME@ --help` prints.
+# shellcheck shell=bash disable=SC2034,SC2207
+
+# What a command takes: its names in order, how many at most, and its options. An option is
+# WORD:VALUES, with the number of values after it, and after another colon each that it excludes.
+_@NAME@_call() {
+    case $1 in
+@CALLS@
+    esac
+}
+
+# Offers files with this ending, or all where none has it. Folders are always offered.
+_@NAME@_files() {
+    compopt -o filenames 2>/dev/null
+    mapfile -t COMPREPLY < <(compgen -f -X "!*.$1" -- "$current")
+    if ((${#COMPREPLY[@]})); then
+        mapfile -t -O "${#COMPREPLY[@]}" COMPREPLY < <(compgen -d -- "$current")
+    else
+        mapfile -t COMPREPLY < <(compgen -f -- "$current")
+    fi
+}
+
+# Offers what a name of this kind can be.
+_@NAME@_name() {
+    case $1 in
+    MANIFEST) _@NAME@_files toml ;;
+    STIM) _@NAME@_files stim ;;
+    RECORD) _@NAME@_files rec ;;
+    COPIES) COMPREPLY=($(compgen -W '@COPIES@' -- "$current")) ;;
+    PROGRAM)
+        compopt -o filenames 2>/dev/null
+        mapfile -t COMPREPLY < <(compgen -c -- "$current" | sort -u)
+        ;;
+    esac
+}
+
+# Offers the options that weren't given and that no given one excludes.
+_@NAME@_options() {
+    local option words=()
+    for option in "${options[@]}"; do
+        [[ $excluded == *":${option%%:*}:"* ]] || words+=("${option%%:*}")
+    done
+    COMPREPLY+=($(compgen -W "${words[*]}" -- "$current"))
+}
+
+# Reads the words between the command and the one that is typed: `count` names were given, no option
+# of `excluded` may follow, and `due` values of the last one are missing.
+_@NAME@_read() {
+    local at option word values others
+    for ((at = $1; at < COMP_CWORD; at++)); do
+        if ((due)); then
+            ((due--))
+            continue
+        fi
+        for option in "${options[@]}"; do
+            IFS=: read -r word values others <<<"$option"
+            if [[ ${COMP_WORDS[at]} == "$word" ]]; then
+                due=$values excluded+=":$word:$others:"
+                continue 2
+            fi
+        done
+        ((++count))
+    done
+}
+
+_@NAME@() {
+    local commands='@COMMANDS@'
+    local own='@OWN_WORDS@' dashed='@DASHED@'
+    local names=() most=0 options=() count=0 due=0 excluded=''
+    local current=${COMP_WORDS[COMP_CWORD]} first=1 command='' name
+    COMPREPLY=()
+    if [[ $commands ]]; then
+        first=2 command=${COMP_WORDS[1]}
+        if ((COMP_CWORD == 2)) && [[ $command == --help || $command == help ]]; then
+            COMPREPLY=($(compgen -W "$commands" -- "$current"))
+            return
+        fi
+    fi
+    if ((COMP_CWORD == 1)) && [[ $commands || $current == -* ]]; then
+        # Without a beginning, only words that say what to do.
+        [[ $current ]] && own+=" $dashed"
+        COMPREPLY=($(compgen -W "$commands $own" -- "$current"))
+        return
+    fi
+    _@NAME@_call "$command" || return 0
+    _@NAME@_read "$first"
+    if ((due)); then return 0; fi
+    if [[ $current == -* ]]; then
+        _@NAME@_options
+        if [[ $commands ]] && ((COMP_CWORD == 2)); then
+            COMPREPLY+=($(compgen -W --help -- "$current"))
+        fi
+        return
+    fi
+    if ((count < most)); then
+        name=${names[count < ${#names[@]} ? count : ${#names[@]} - 1]}
+        _@NAME@_name "$name"
+    fi
+    if ((count >= ${#names[@]})) && [[ ! $current ]]; then _@NAME@_options; fi
+}
+
+complete -F _@NAME@ @NAME@
