@@ -34,6 +34,10 @@ class Outcome:
         """The first line on standard error. The lines after it are hints."""
         return self.err.partition(b"\n")[0]
 
+    def last_line(self) -> bytes:
+        """The last line on standard error. The lines of a lane's children stand before it."""
+        return self.err.splitlines()[-1]
+
     def error_without_hints(self) -> bytes:
         """Standard error without the lines after the first that begin with two spaces."""
         lines = self.err.splitlines(keepends=True)

@@ -216,7 +216,7 @@ def test_lane_on_hosts(bench: Bench, hosts: Hosts) -> None:
     given = lane(bench, hosts, 3, "one two three", DET_REMOTE=str(flipping))
     assert given == Outcome(1, b"differ copy 1 header\n", b""), str(given)
     given = lane(bench, hosts, 2, "one none")
-    assert (given.status, given.line()) == (9, b"child 1 status 255"), str(given)
+    assert (given.status, given.last_line()) == (9, b"child 1 status 255"), str(given)
 
 
 def test_refused_on_hosts(bench: Bench, hosts: Hosts) -> None:
@@ -228,7 +228,7 @@ def test_refused_on_hosts(bench: Bench, hosts: Hosts) -> None:
     text = 'det_lane "$many/on_hosts.sh" 2 {} "its stimulus"'
     assert shell(bench, text.format('"of the cloud.toml"'), **given).out == b"agree 4\n"
     refused = shell(bench, text.format("bad.toml"), **given)
-    assert (refused.status, refused.line()) == (9, b"child 0 status 3"), str(refused)
+    assert (refused.status, refused.last_line()) == (9, b"child 0 status 3"), str(refused)
 
 
 def command_of_workflow() -> str:
