@@ -14,6 +14,6 @@ mod summary_lines;
 
 pub use frame_lines::put_frame_lines;
 pub use header_lines::put_header_lines;
-pub use put_text::{put_number, put_number_line, put_str};
+pub use put_text::{put_hex_digits, put_number, put_number_line, put_signed, put_str};
 pub use show_part::ShowPart;
 pub use summary_lines::{Summary, put_salvaged_line, put_summary_lines};

@@ -52,7 +52,8 @@ fn put_piece(out: &mut Vec<u8>, piece: &[u8]) -> Result<(), AllocError>
     out.extend_from_slice(part)
 }
 
-fn put_digits(out: &mut Vec<u8>, bytes: &[u8]) -> Result<(), AllocError>
+/// Appends bytes as hex digits in lower case. After `AllocError` a part of them may be there.
+pub fn put_hex_digits(out: &mut Vec<u8>, bytes: &[u8]) -> Result<(), AllocError>
     ensures { OnOk result (out.new.items ≡ out.old.items ++ encode_lower bytes.now) }
 {
     for piece in bytes.chunks(64) {
@@ -67,6 +68,6 @@ pub fn put_hex(out: &mut Vec<u8>, bytes: &[u8]) -> Result<(), AllocError>
 {
     match bytes {
         [] => put_str(out, "-"),
-        _ => put_digits(out, bytes),
+        _ => put_hex_digits(out, bytes),
     }
 }
