@@ -15,6 +15,13 @@ use Rattle.record_grammar.specs.declared.item.Item.TheVariants as items
 use Rattle.record_text.specs.declared.show_part.ShowPart.{ShowPart}
 use Rattle.record_text.specs.declared.show_part.ShowPart.TheVariants.{All, Reports, Cycle}
 use Rattle.record_text.specs.Records.{header_lines, frame_lines}
+use Rattle.record_json.specs.declared.element_layout.ElementLayout.{ElementLayout}
+use Rattle.record_json.specs.declared.element_layout.ElementLayout.TheVariants.{Unknown}
+use Rattle.record_json.specs.Elements.{layout_of}
+use Rattle.record_json.specs.Records.{header_line, frame_line}
+use Rattle.cmd_records.specs.declared.record_show.show_form.Notation.{Notation}
+use Rattle.cmd_records.specs.declared.record_show.show_form.Notation.TheVariants.{Lines, Json}
+use Rattle.cmd_records.specs.declared.record_show.show_form.ShowForm.{ShowForm}
 use Rattle.record_view.specs.declared.view.ItemKind.{ItemKind}
 use Rattle.record_reader.specs.Kinds.{begins_runs, runs_of}
 use Rattle.record_reader.specs.Salvaged.{is_init}
@@ -23,7 +30,7 @@ use Rattle.record_reader.specs.ItemTaker.{ItemTaker}
 use Rattle.probes.specs.Reports.{AudienceState}
 use Rattle.probes.specs.Shows.{Shows}
 use Rattle.cmd_records.specs.declared.record_show.printer.Printer.{Printer}
-use Rattle.cmd_records.specs.record_show.Text.{format_in, lines_of}
+use Rattle.cmd_records.specs.record_show.Text.{format_in, layout_in, lines_of}
 use Rattle.record_reader.specs.InItems.{runs_in}
 
 abbrev pub format_by : Format → Item → Format
@@ -42,15 +49,26 @@ is_printed Reports number item = false
 is_printed (Cycle wanted) number (items.Frame (Run run)) = nat_eq number wanted
 is_printed (Cycle wanted) number item = false
 
+abbrev pub layout_by : ElementLayout → Item → ElementLayout
+layout_by layout (items.Header profile) = layout_of profile
+layout_by layout (items.Frame frame) = layout
+
+-- the layout of the elements in frames after these items
+unfoldable pub layout_behind : ElementLayout → List Item → ElementLayout
+layout_behind layout [] = layout
+layout_behind layout (x ∷ xs) = layout_behind (layout_by layout x) xs
+
 -- the lines of an item; `number` is the cycle of a Run frame
-abbrev pub lines_at : Format → ℕ → Item → List ℕ
-lines_at format number (items.Header profile) = header_lines profile
-lines_at format number (items.Frame frame) = frame_lines format number frame
+abbrev pub lines_at : Notation → Format → ElementLayout → ℕ → Item → List ℕ
+lines_at Lines format layout number (items.Header profile) = header_lines profile
+lines_at Lines format layout number (items.Frame frame) = frame_lines format number frame
+lines_at Json format layout number (items.Header profile) = header_line profile
+lines_at Json format layout number (items.Frame frame) = frame_line format layout number frame
 
 -- the lines of an item that are printed
-abbrev pub printed_of : ShowPart → Format → ℕ → Item → List ℕ
-printed_of part format number item =
-    if is_printed part number item then lines_at format number item else []
+abbrev pub printed_of : ShowForm → Format → ElementLayout → ℕ → Item → List ℕ
+printed_of form format layout number item =
+    if is_printed form.part number item then lines_at form.notation format layout number item else []
 
 -- if only one run is printed, the audience is as it was
 abbrev pub Kept : ShowPart → AudienceState → AudienceState → Type 0
@@ -70,19 +88,21 @@ Watched (Cycle number) first now runs = now ≡ first
 Watched part first now runs = Shows first now runs
 
 -- these items were printed and shown to an audience
-pub record AreShown (part : ShowPart) (first now : AudienceState) (printer : Printer)
+pub record AreShown (form : ShowForm) (first now : AudienceState) (printer : Printer)
     (given : List Item) : Type 0 where
-  pub part_is : printer.part ≡ part
+  pub form_is : printer.form ≡ form
   -- the header came first
   pub headed : IsHeaded given
   pub format : format_behind One given ≡ format_in given
+  pub layout : layout_behind Unknown given ≡ layout_in given
+  pub layout_is : printer.layout ≡ layout_in given
   pub has_begun : printer.has_begun ≡ list_any is_init given
   pub cycles : printer.cycles ≡ length (runs_in given)
-  pub watched : Watched part first now (runs_in given)
+  pub watched : Watched form.part first now (runs_in given)
 
 -- an item of this kind was counted
 pub record Noted (kind : ItemKind) (old new : Printer) : Type 0 where
-  pub part : new.part ≡ old.part
+  pub form : new.form ≡ old.form
   pub has_begun : new.has_begun ≡ (begins_runs kind || old.has_begun)
   pub cycles : new.cycles ≡ old.cycles + runs_of kind
 
@@ -93,10 +113,10 @@ IsCut part first now (Failed Write) given = Watched part first now (runs_in give
 IsCut part first now stop given = Unit {0}
 
 -- a printer and an audience as a taker of items
-abbrev pub showing : ShowPart → AudienceState → AudienceState → Printer → ItemTaker RecordFault
-showing part first now printer = record {
+abbrev pub showing : ShowForm → AudienceState → AudienceState → Printer → ItemTaker RecordFault
+showing form first now printer = record {
   fault_of = Some;
-  written = lines_of part;
-  stands = AreShown part first now printer;
-  stopped = λ stop given item. IsCut part first now stop given;
+  written = lines_of form;
+  stands = AreShown form first now printer;
+  stopped = λ stop given item. IsCut form.part first now stop given;
 }

@@ -18,6 +18,7 @@ use Rattle.record_reader.specs.item_reader.Needed.{ReadsWhile}
 use Rattle.record_reader.specs.ItemTaker.{OfSlot}
 use Rattle.probes.specs.Reports.{AudienceState, reported}
 use Rattle.probes.specs.Shows.{SawRuns}
+use Rattle.cmd_records.specs.declared.record_show.show_form.ShowForm.{ShowForm}
 use Rattle.cmd_records.specs.declared.record_show.shown.Shown.{Shown}
 use Rattle.cmd_records.specs.record_show.PrintedItems.{Kept}
 use Rattle.cmd_records.specs.record_show.Text.{lines_of, reports_of, text_of}
@@ -27,35 +28,35 @@ use Rattle.cmd_records.specs.command_ends.Results.{UnlessNoMemory}
 -- ---- the text
 
 -- the record is whole, and all of its text was taken
-pub record IsShown (shown : Shown) (part : ShowPart) (audience : AudienceState)
+pub record IsShown (shown : Shown) (form : ShowForm) (audience : AudienceState)
     (record_bytes : List ℕ) (out : SinkRun) : Type 0 where
   pub whole : fault_in record_bytes ≡ None
-  pub grew : Grew out.before out.after (text_of part audience record_bytes)
+  pub grew : Grew out.before out.after (text_of form audience record_bytes)
   pub cycles : shown.cycles ≡ length (runs_in (items_in record_bytes))
 
 -- what a result says of a record, and of what the sink took
-abbrev pub Answers : Result Shown (Stopped RecordFault) → ShowPart → AudienceState → List ℕ
+abbrev pub Answers : Result Shown (Stopped RecordFault) → ShowForm → AudienceState → List ℕ
     → SinkRun → Type 0
-Answers (Ok shown) part audience record_bytes out = IsShown shown part audience record_bytes out
-Answers (Err (Refused fault)) part audience record_bytes out = (fault_in record_bytes ≡ Some fault)
-    × Grew out.before out.after (text_of part audience record_bytes)
-Answers (Err (Failed Read)) part audience record_bytes out =
-    GrewByPrefix out.before out.after (text_of part audience record_bytes)
-Answers (Err (Failed Write)) part audience record_bytes out =
-    GrewShort out.before out.after (text_of part audience record_bytes)
-Answers (Err (Failed OutOfMemory)) part audience record_bytes out =
-    GrewByPrefix out.before out.after (text_of part audience record_bytes)
+Answers (Ok shown) form audience record_bytes out = IsShown shown form audience record_bytes out
+Answers (Err (Refused fault)) form audience record_bytes out = (fault_in record_bytes ≡ Some fault)
+    × Grew out.before out.after (text_of form audience record_bytes)
+Answers (Err (Failed Read)) form audience record_bytes out =
+    GrewByPrefix out.before out.after (text_of form audience record_bytes)
+Answers (Err (Failed Write)) form audience record_bytes out =
+    GrewShort out.before out.after (text_of form audience record_bytes)
+Answers (Err (Failed OutOfMemory)) form audience record_bytes out =
+    GrewByPrefix out.before out.after (text_of form audience record_bytes)
 
 -- ---- the audience
 
 -- the audience has seen the runs of the first items of a record, whose lines a sink took
-pub record SawFirst (part : ShowPart) (old now : AudienceState) (record_bytes : List ℕ)
+pub record SawFirst (form : ShowForm) (old now : AudienceState) (record_bytes : List ℕ)
     (out : SinkRun) : Type 0 where
   pub seen : List Item
   pub first : IsPrefix seen (items_in record_bytes)
   pub saw : SawRuns old now (runs_in seen)
   pub taken : List ℕ
-  pub lines : IsPrefix (lines_of part seen) taken
+  pub lines : IsPrefix (lines_of form seen) taken
   pub grew : Grew out.before out.after taken
 
 -- all reports are given and no probe is left, unless only one run is printed
@@ -70,14 +71,14 @@ IsGone (Cycle number) now = Unit {0}
 IsGone part now = now.seeing ≡ []
 
 -- the reports, if there are any, were printed, or the audience or the sink failed
-abbrev pub FinishIs : Result Shown (Stopped RecordFault) → ShowPart → ℕ → AudienceState
+abbrev pub FinishIs : Result Shown (Stopped RecordFault) → ShowForm → ℕ → AudienceState
     → AudienceState → SinkRun → Type 0
-FinishIs (Ok shown) part cycles old now out = (shown.cycles ≡ cycles) × Finished part old now []
-    × Grew out.before out.after (reports_of part old [])
-FinishIs (Err (Failed Write)) part cycles old now out = Finished part old now []
-    × GrewShort out.before out.after (reports_of part old [])
-FinishIs (Err (Failed OutOfMemory)) part cycles old now out = Grew out.before out.after []
-FinishIs (Err stop) part cycles old now out = ⊥
+FinishIs (Ok shown) form cycles old now out = (shown.cycles ≡ cycles) × Finished form.part old now []
+    × Grew out.before out.after (reports_of form old [])
+FinishIs (Err (Failed Write)) form cycles old now out = Finished form.part old now []
+    × GrewShort out.before out.after (reports_of form old [])
+FinishIs (Err (Failed OutOfMemory)) form cycles old now out = Grew out.before out.after []
+FinishIs (Err stop) form cycles old now out = ⊥
 
 -- ---- the whole
 
@@ -90,21 +91,21 @@ ReadsTo (Err (Failed Read)) read at_end = fault_so_far read ≡ None
 ReadsTo (Err stop) read at_end = Unit {0}
 
 -- if a read failed, the lines of all items in the bytes that were read were taken
-abbrev pub WroteRead : Result Shown (Stopped RecordFault) → ShowPart → List ℕ → SinkRun → Type 0
-WroteRead (Err (Failed Read)) part read out =
-    Grew out.before out.after (lines_of part (items_in read))
-WroteRead result part read out = Unit {0}
+abbrev pub WroteRead : Result Shown (Stopped RecordFault) → ShowForm → List ℕ → SinkRun → Type 0
+WroteRead (Err (Failed Read)) form read out =
+    Grew out.before out.after (lines_of form (items_in read))
+WroteRead result form read out = Unit {0}
 
 -- the result after these bytes were read
-pub record Ended (result : Result Shown (Stopped RecordFault)) (part : ShowPart)
+pub record Ended (result : Result Shown (Stopped RecordFault)) (form : ShowForm)
     (old now : AudienceState) (read : List ℕ) (shelf : ShelfRun) (slot : ℕ) (out : SinkRun)
     : Type 0 where
   pub reads_to : ReadsTo result read (IsAtEnd shelf.last slot)
   pub needed : ReadsWhile (λ first. fault_so_far first ≡ None) read
-  pub wrote : WroteRead result part read out
-  pub answers : OfSlot shelf slot read (λ bytes. Answers result part old bytes out)
+  pub wrote : WroteRead result form read out
+  pub answers : OfSlot shelf slot read (λ bytes. Answers result form old bytes out)
   -- after "out of memory" some probes may have seen one run more, or have left
   pub sees : OfSlot shelf slot read
-      (λ bytes. UnlessNoMemory result (SawFirst part old now bytes out))
-  pub gone : OnOk result (IsGone part now)
-  pub kept : Kept part old now
+      (λ bytes. UnlessNoMemory result (SawFirst form old now bytes out))
+  pub gone : OnOk result (IsGone form.part now)
+  pub kept : Kept form.part old now

@@ -1,4 +1,4 @@
-//! `Printer`, which prints_item items one after another and shows them to an audience.
+//! `Printer`, which prints items one after another and shows them to an audience.
 ghost use Rattle.std.specs.Prelude.{◌≡◌, ◌<◌, ◌++◌, ◌∷◌, [], ℕ, List, OnOk, length};
 ghost use Rattle.record_grammar.specs.declared.place.Place.{Place};
 ghost use Rattle.record_grammar.specs.declared.item.Item.{Item};
@@ -11,10 +11,12 @@ ghost use Rattle.record_reader.specs.InItems.{run_in};
 ghost use Rattle.cmd_records.specs.record_show.PrintedItems.{Kept, Watched, is_printed};
 
 use crate::record_show::presenter::Presenter;
+use crate::record_show::show_form::{Notation, ShowForm};
 use det_io::{Sink, Stopped, write_all};
 use probes::{Audience, Probe};
 use record_codec::decode_profile;
 use record_grammar::RecordFault;
+use record_json::{ElementLayout, put_json_frame, put_json_header};
 use record_reader::{begins_runs, runs_of};
 use record_text::{ShowPart, put_frame_lines, put_header_lines};
 use record_view::{FrameKind, ItemKind, ItemView};
@@ -24,7 +26,9 @@ use std::alloc::{AllocError, Global};
 #[derive(Drop)]
 pub struct Printer {
     alloc: Global,
-    pub part: ShowPart,
+    pub form: ShowForm,
+    /// The numbers in the elements of the job in the header.
+    layout: ElementLayout,
     /// The lines of the last item that was printed. The buffer is used again.
     lines: Vec<u8>,
     presenter: Presenter,
@@ -58,19 +62,20 @@ fn prints_item(part: ShowPart, number: u32, kind: ItemKind) -> bool
 
 impl Printer {
     ghost use Rattle.record_reader.specs.ItemTaker.{IsNext, Wrote, Takes};
-    ghost use Rattle.cmd_records.specs.record_show.PrintedItems.{AreShown, showing, lines_at};
+    ghost use Rattle.cmd_records.specs.record_show.PrintedItems.{AreShown, showing, lines_at, layout_by};
     ghost use Rattle.cmd_records.specs.record_show.PrintedItems.{printed_of};
     ghost use Rattle.cmd_records.specs.record_show.PrintedItems.{IsFailed, Noted};
 
     /// A printer that has printed nothing. It allocates nothing.
-    pub fn new(alloc: Global, part: ShowPart) -> Printer
+    pub fn new(alloc: Global, form: ShowForm) -> Printer
         ensures new { (audience : AudienceState)
-            → AreShown result.part audience audience result [] }
-        ensures part { result.part ≡ part }
+            → AreShown result.form audience audience result [] }
+        ensures form { result.form ≡ form }
     {
         Printer {
             alloc,
-            part,
+            form,
+            layout: ElementLayout::Unknown,
             lines: Vec::new(alloc),
             presenter: Presenter::new(alloc),
             has_begun: false,
@@ -90,20 +95,21 @@ impl Printer {
         requires few { self.old.cycles < 4294967295 }
         requires spelled { (item : Item) × IsSpelling view item bytes.now }
         ensures takes { (first : AudienceState) (given : List Item) (item : Item)
-            → AreShown self.old.part first
+            → AreShown self.old.form first
             (seen (λ b. life (b.vtable, b.value)) audience.old) self.old given
             → IsNext given item view bytes.now
             → Takes result
-            (showing self.old.part first
+            (showing self.old.form first
             (seen (λ b. life (b.vtable, b.value)) audience.new) self.new) given item []
             (sink_run K.took K.faults sink.old sink.new) }
         ensures traffic { SinkTraffic (sink_run K.took K.faults sink.old sink.new)
             (failure_in result) }
-        ensures part { self.new.part ≡ self.old.part }
-        ensures kept { Kept self.old.part (seen (λ b. life (b.vtable, b.value)) audience.old)
+        ensures form { self.new.form ≡ self.old.form }
+        ensures kept { Kept self.old.form.part (seen (λ b. life (b.vtable, b.value)) audience.old)
             (seen (λ b. life (b.vtable, b.value)) audience.new) }
     {
         self.count(view.span.kind);
+        self.note_layout(view, bytes)?;
         self.print_item(view, bytes, sink)?;
         self.present_item(view, bytes, audience)?;
         Ok(())
@@ -118,6 +124,19 @@ impl Printer {
         self.cycles += runs_of(kind);
     }
 
+    /// Notes the layout of the elements behind a header.
+    fn note_layout(&mut self, view: ItemView, bytes: &[u8]) -> Result<(), AllocError>
+        requires { (item : Item) × IsSpelling view item bytes.now }
+        ensures layout { OnOk result ((item : Item) → IsSpelling view item bytes.now
+            → self.new.layout ≡ layout_by self.old.layout item) }
+        ensures same { self.new ≡ record self.old { layout = self.new.layout } }
+    {
+        if view.as_frame().is_none() {
+            self.layout = ElementLayout::of(&decode_profile(self.alloc, view, bytes)?);
+        }
+        Ok(())
+    }
+
     /// Prints the lines of an item that is counted already, if the part has them.
     fn print_item<K: Sink>(
         &mut self,
@@ -127,14 +146,14 @@ impl Printer {
     ) -> Result<(), Stopped<RecordFault>>
         requires { (item : Item) × IsSpelling view item bytes.now }
         ensures wrote { (item : Item) → IsSpelling view item bytes.now → Wrote result []
-            (printed_of self.old.part (format_of view.place) self.old.cycles item)
+            (printed_of self.old.form (format_of view.place) self.old.layout self.old.cycles item)
             (sink_run K.took K.faults sink.old sink.new) }
         ensures fails { IsFailed result }
         ensures traffic { SinkTraffic (sink_run K.took K.faults sink.old sink.new)
             (failure_in result) }
         ensures same { self.new ≡ record self.old { lines = self.new.lines } }
     {
-        if !prints_item(self.part, self.cycles, view.span.kind) {
+        if !prints_item(self.form.part, self.cycles, view.span.kind) {
             return Ok(());
         }
         self.put(view, bytes)?;
@@ -146,13 +165,23 @@ impl Printer {
     fn put(&mut self, view: ItemView, bytes: &[u8]) -> Result<(), AllocError>
         requires { (item : Item) × IsSpelling view item bytes.now }
         ensures lines { OnOk result ((item : Item) → IsSpelling view item bytes.now
-            → self.new.lines.items ≡ lines_at (format_of view.place) self.old.cycles item) }
+            → self.new.lines.items ≡ lines_at self.old.form.notation (format_of view.place) self.old.layout
+            self.old.cycles item) }
         ensures same { self.new ≡ record self.old { lines = self.new.lines } }
     {
         self.lines.clear();
-        match view.as_frame() {
-            Some(frame) => put_frame_lines(&mut self.lines, self.cycles, frame, bytes),
-            None => put_header_lines(&mut self.lines, &decode_profile(self.alloc, view, bytes)?),
+        let lines = &mut self.lines;
+        match (view.as_frame(), self.form.notation) {
+            (Some(frame), Notation::Lines) => put_frame_lines(lines, self.cycles, frame, bytes),
+            (Some(frame), Notation::Json) => {
+                put_json_frame(lines, self.layout, self.cycles, frame, bytes)
+            }
+            (None, Notation::Lines) => {
+                put_header_lines(lines, &decode_profile(self.alloc, view, bytes)?)
+            }
+            (None, Notation::Json) => {
+                put_json_header(lines, &decode_profile(self.alloc, view, bytes)?)
+            }
         }
     }
 
@@ -165,14 +194,14 @@ impl Printer {
     ) -> Result<(), AllocError>
         requires { (item : Item) × IsSpelling view item bytes.now }
         ensures shown { (item : Item) → IsSpelling view item bytes.now
-            → OnOk result (Watched self.old.part
+            → OnOk result (Watched self.old.form.part
             (seen (λ b. life (b.vtable, b.value)) audience.old)
             (seen (λ b. life (b.vtable, b.value)) audience.new) (run_in item)) }
-        ensures kept { Kept self.old.part (seen (λ b. life (b.vtable, b.value)) audience.old)
+        ensures kept { Kept self.old.form.part (seen (λ b. life (b.vtable, b.value)) audience.old)
             (seen (λ b. life (b.vtable, b.value)) audience.new) }
         ensures same { self.new ≡ record self.old { presenter = self.new.presenter } }
     {
-        match self.part {
+        match self.form.part {
             ShowPart::All | ShowPart::Reports => self.presenter.show(view, bytes, audience),
             ShowPart::Cycle(_) => Ok(()),
         }

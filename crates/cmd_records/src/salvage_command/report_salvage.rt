@@ -9,7 +9,7 @@ ghost use Rattle.record_reader.specs.ItemTaker.{Wrote};
 ghost use Rattle.cmd_records.specs.record_show.PrintedItems.{IsFailed};
 ghost use Rattle.cmd_records.specs.salvage_command.ReportEnds.{Ended};
 
-use crate::record_show::{Printer, show_items};
+use crate::record_show::{Notation, Printer, ShowForm, show_items};
 use det_io::{Discard, Sink, Slots, Stopped, write_all};
 use probes::{Audience, Probe};
 use record_grammar::RecordFault;
@@ -17,6 +17,12 @@ use record_reader::item_reader::ItemReader;
 use record_reader::settle_fault;
 use record_text::{ShowPart, put_salvaged_line};
 use std::alloc::{AllocError, Global};
+
+/// No items are printed, so the notation doesn't matter.
+const REPORTS: ShowForm = ShowForm {
+    part: ShowPart::Reports,
+    notation: Notation::Lines,
+};
 
 /// Shows the runs of a record to the audience, and then prints how many there are and what is
 /// reported of them.
@@ -43,7 +49,7 @@ pub(crate) fn report_salvage<S: Slots, K: Sink>(
     ensures sink_traffic { SinkTraffic (sink_run K.took K.faults sink.old sink.new)
         (failure_in result) }
 {
-    let mut printer = Printer::new(alloc, ShowPart::Reports);
+    let mut printer = Printer::new(alloc, REPORTS);
     let read = show_items(reader, shelf, &mut printer, &mut Discard, audience);
     settle_fault(read, printer.has_begun)?;
     audience.finish(alloc)?;

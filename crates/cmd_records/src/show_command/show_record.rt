@@ -16,12 +16,11 @@ ghost use Rattle.cmd_records.specs.show_command.Show.{show_outcome};
 
 use crate::command_ends::record_answer;
 use crate::open_names::open_record;
-use crate::record_show::show_run;
+use crate::record_show::{ShowForm, show_run};
 use cli_answers::Answer;
 use det_io::{Shelf, Sink};
 use probes::{Audience, Probe};
 use record_reader::item_reader::ItemReader;
-use record_text::ShowPart;
 use std::alloc::Global;
 
 /// Prints a part of the record under this name, item by item, and shows its runs to the audience.
@@ -31,32 +30,32 @@ use std::alloc::Global;
 pub fn show<S: Shelf, K: Sink>(
     alloc: Global,
     recorded: &str,
-    part: ShowPart,
+    form: ShowForm,
     shelf: &mut S,
     out: &mut K,
     audience: &mut Audience,
 ) -> Answer
     ensures meets { MeetsRecord
-        (show_outcome part (seen (λ b. life (b.vtable, b.value)) audience.old))
+        (show_outcome form (seen (λ b. life (b.vtable, b.value)) audience.old))
         (S.sees shelf.old) (S.sees shelf.new) recorded.now
         (sink_run K.took K.faults out.old out.new) result }
     // If a read fails, the lines of all items that were read are written.
     ensures broken { result ≡ Answer.ReadFault → KnowsBytes (S.sees shelf.old) (recorded.now ∷ [])
         → BreaksOff (S.sees shelf.old) (S.sees shelf.new) recorded.now
-        (λ read. lines_of part (items_in read)) (sink_run K.took K.faults out.old out.new) }
+        (λ read. lines_of form (items_in read)) (sink_run K.took K.faults out.old out.new) }
     ensures ends { can_end reads_records result ≡ true }
     ensures asked { AsksPrefix (S.sees shelf.old) (S.sees shelf.new) (recorded.now ∷ []) }
     ensures earlier { KeepsSlots (S.sees shelf.old) (S.sees shelf.new) }
     // Whatever the answer, except "out of memory", the audience has seen first runs whose lines
     // `out` took.
     ensures saw { result ≢ Answer.OutOfMemory → KnowsBytes (S.sees shelf.old) (recorded.now ∷ [])
-        → SawFirst part (seen (λ b. life (b.vtable, b.value)) audience.old)
+        → SawFirst form (seen (λ b. life (b.vtable, b.value)) audience.old)
         (seen (λ b. life (b.vtable, b.value)) audience.new)
         (known_bytes (S.sees shelf.old) recorded.now)
         (sink_run K.took K.faults out.old out.new) }
     ensures gone { result ≡ Answer.Done
-        → IsGone part (seen (λ b. life (b.vtable, b.value)) audience.new) }
-    ensures kept { Kept part (seen (λ b. life (b.vtable, b.value)) audience.old)
+        → IsGone form.part (seen (λ b. life (b.vtable, b.value)) audience.new) }
+    ensures kept { Kept form.part (seen (λ b. life (b.vtable, b.value)) audience.old)
         (seen (λ b. life (b.vtable, b.value)) audience.new) }
 {
     let slot = match open_record(recorded, shelf) {
@@ -64,6 +63,6 @@ pub fn show<S: Shelf, K: Sink>(
         Err(failure) => return Answer::from(failure),
     };
     let mut reader = ItemReader::new(alloc, slot);
-    let shown = show_run(alloc, part, &mut reader, shelf, out, audience);
+    let shown = show_run(alloc, form, &mut reader, shelf, out, audience);
     record_answer(shown)
 }

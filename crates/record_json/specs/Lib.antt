@@ -1,0 +1,4 @@
+pub mod Texts
+pub mod Elements
+pub mod Records
+pub mod Reports
