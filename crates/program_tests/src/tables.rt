@@ -1,7 +1,8 @@
 //! The tables of rows: the arguments of a run, its status, its output and its line for the user.
 //!
 //! Outputs and lines are written as `running::are_as_wanted` says. Digests, and outputs that are no
-//! listed record, come from the plain program in `tests/plain`.
+//! listed record, come from the plain program in `tests/plain`; those of `--json` from the values
+//! that `tests/json_lines.py` makes.
 
 /// Runs that end with Done or Differs.
 pub fn whole_rows() -> &'static str {
@@ -64,6 +65,9 @@ show A2@50=01|0|#246 cd7c7044a53d15793f64cf81f10790bb7ade40dbeb8658f0cbe07ddf236
 show G2|0|#14733 c89a2aaefca6ed260f3b5bb0a8154b57c29246c8ace37ad68aa25f1d7979831f|
 show G2 --reports|0|refusal 2 pool 0 3 1/count 2 1/gap 10/|
 show B --cycle 2|0|#195 cd0dd2ab0ae4600b7a7bb995dbfe8ec3f862a3701147deddeab647ae016ea4bc|
+show B2 --json|0|#1223 7e872b7652d972a79ba1bc2094577e0664364428d882bfc09d3ecf104a224fea|
+show G2 --json|0|#32529 beaa3fa681905bfd239f0112ac51390199ce45f56149e288be8bc42c88308eda|
+show B --json --cycle 2|0|#339 cd68140af4901093791caab1b7b5208dc2accc271392e719de8b8b6a7f2d5516|
 show A@9=09|0|#231 cd7783e0850b3cc7b51ee2249b4d66c671b1bcd3fd221e87ceed1a9fd82da85e|
 needs user|0|job guard/cycle_time 20000000/workers 4/platform arm64/init instructions \
 500000/init sequential_begin 1000/init sequential_end 2000/init speedup 2500/run instructions \
@@ -87,6 +91,7 @@ record bank s.two --seed 18446744073709551616|2||bad words/
 compare A|2||bad words/
 compare A A A A A A A A A|2||bad words/
 show -x|2||bad words/
+show A --reports --json|2||bad words/
 needs |2||bad words/
 --workers 2 record bank s.two|2||bad words/
 record m.toml s.two|3||bad manifest: not toml/
@@ -124,6 +129,8 @@ demo s.none+0a|4|=A2:98|bad stimulus: line 3/
 demo s.none:16|4|=A2:98|bad stimulus: line 2/
 show A:97|5|#189 f6b3e345316829d319af5d473522c6e60e1c124dd9a8e04dddae2c71267972ec|bad record: \
 copy 0 offset 97 truncated/
+show A:97 --json|5|#362 2ce06b6651bb161d1ecb30f76c573d9d82989282a02a83e635b69782080225e3|bad record\
+: copy 0 offset 97 truncated/
 show A+00|5|#199 3473801fe47f21e280ef498c46e5e1fd4aef7bb5765a7c45ca6a1915182f96f7|bad record: \
 copy 0 offset 98 trailing/
 show A@0=45|5||bad record: copy 0 offset 0 magic/
