@@ -1,4 +1,5 @@
 pub mod Lines
+pub mod JsonLines
 pub mod Parts
 pub mod Formats
 pub mod Gone

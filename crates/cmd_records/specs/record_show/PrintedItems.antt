@@ -68,7 +68,8 @@ lines_at Json format layout number (items.Frame frame) = frame_line format layou
 -- the lines of an item that are printed
 abbrev pub printed_of : ShowForm → Format → ElementLayout → ℕ → Item → List ℕ
 printed_of form format layout number item =
-    if is_printed form.part number item then lines_at form.notation format layout number item else []
+    if is_printed form.part number item
+    then lines_at form.notation format layout number item else []
 
 -- if only one run is printed, the audience is as it was
 abbrev pub Kept : ShowPart → AudienceState → AudienceState → Type 0
@@ -103,6 +104,7 @@ pub record AreShown (form : ShowForm) (first now : AudienceState) (printer : Pri
 -- an item of this kind was counted
 pub record Noted (kind : ItemKind) (old new : Printer) : Type 0 where
   pub form : new.form ≡ old.form
+  pub layout : new.layout ≡ old.layout
   pub has_begun : new.has_begun ≡ (begins_runs kind || old.has_begun)
   pub cycles : new.cycles ≡ old.cycles + runs_of kind
 

@@ -73,11 +73,12 @@ IsGone part now = now.seeing ≡ []
 -- the reports, if there are any, were printed, or the audience or the sink failed
 abbrev pub FinishIs : Result Shown (Stopped RecordFault) → ShowForm → ℕ → AudienceState
     → AudienceState → SinkRun → Type 0
-FinishIs (Ok shown) form cycles old now out = (shown.cycles ≡ cycles) × Finished form.part old now []
-    × Grew out.before out.after (reports_of form old [])
+FinishIs (Ok shown) form cycles old now out = (shown.cycles ≡ cycles)
+    × Finished form.part old now [] × Grew out.before out.after (reports_of form old [])
 FinishIs (Err (Failed Write)) form cycles old now out = Finished form.part old now []
     × GrewShort out.before out.after (reports_of form old [])
-FinishIs (Err (Failed OutOfMemory)) form cycles old now out = Grew out.before out.after []
+FinishIs (Err (Failed OutOfMemory)) form cycles old now out =
+    GrewByPrefix out.before out.after (reports_of form old [])
 FinishIs (Err stop) form cycles old now out = ⊥
 
 -- ---- the whole

@@ -1,5 +1,5 @@
 //! `Printer`, which prints items one after another and shows them to an audience.
-ghost use Rattle.std.specs.Prelude.{◌≡◌, ◌<◌, ◌++◌, ◌∷◌, [], ℕ, List, OnOk, length};
+ghost use Rattle.std.specs.Prelude.{◌≡◌, ◌<◌, [], ℕ, List, OnOk};
 ghost use Rattle.record_grammar.specs.declared.place.Place.{Place};
 ghost use Rattle.record_grammar.specs.declared.item.Item.{Item};
 ghost use Rattle.record_grammar.specs.Places.{format_of};
@@ -62,9 +62,8 @@ fn prints_item(part: ShowPart, number: u32, kind: ItemKind) -> bool
 
 impl Printer {
     ghost use Rattle.record_reader.specs.ItemTaker.{IsNext, Wrote, Takes};
-    ghost use Rattle.cmd_records.specs.record_show.PrintedItems.{AreShown, showing, lines_at, layout_by};
-    ghost use Rattle.cmd_records.specs.record_show.PrintedItems.{printed_of};
-    ghost use Rattle.cmd_records.specs.record_show.PrintedItems.{IsFailed, Noted};
+    ghost use Rattle.cmd_records.specs.record_show.PrintedItems.{AreShown, IsFailed, Noted, showing};
+    ghost use Rattle.cmd_records.specs.record_show.PrintedItems.{layout_by, lines_at, printed_of};
 
     /// A printer that has printed nothing. It allocates nothing.
     pub fn new(alloc: Global, form: ShowForm) -> Printer
@@ -124,7 +123,7 @@ impl Printer {
         self.cycles += runs_of(kind);
     }
 
-    /// Notes the layout of the elements behind a header.
+    /// Notes the layout of the elements in frames after a header.
     fn note_layout(&mut self, view: ItemView, bytes: &[u8]) -> Result<(), AllocError>
         requires { (item : Item) × IsSpelling view item bytes.now }
         ensures layout { OnOk result ((item : Item) → IsSpelling view item bytes.now
@@ -165,8 +164,8 @@ impl Printer {
     fn put(&mut self, view: ItemView, bytes: &[u8]) -> Result<(), AllocError>
         requires { (item : Item) × IsSpelling view item bytes.now }
         ensures lines { OnOk result ((item : Item) → IsSpelling view item bytes.now
-            → self.new.lines.items ≡ lines_at self.old.form.notation (format_of view.place) self.old.layout
-            self.old.cycles item) }
+            → self.new.lines.items ≡ lines_at self.old.form.notation (format_of view.place)
+            self.old.layout self.old.cycles item) }
         ensures same { self.new ≡ record self.old { lines = self.new.lines } }
     {
         self.lines.clear();

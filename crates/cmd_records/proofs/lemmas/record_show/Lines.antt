@@ -11,8 +11,10 @@ use Rattle.det_io.specs.Prefix.{IsPrefix}
 use Rattle.record_grammar.specs.declared.item.Item.{Item}
 use Rattle.record_grammar.specs.declared.item.Item.TheVariants as items
 use Rattle.record_text.specs.Records.{header_lines, frame_lines, run_lines, item_lines, record_lines}
+use Rattle.record_json.specs.declared.element_layout.ElementLayout.{ElementLayout}
 use Rattle.record_reader.specs.InItems.{runs_in}
 use Rattle.record_reader.specs.InItems.{run_in}
+use Rattle.cmd_records.specs.declared.record_show.show_form.Notation.TheVariants.{Lines}
 use Rattle.cmd_records.specs.record_show.PrintedItems.{format_by, format_behind, lines_at}
 
 -- the lines of one item
@@ -56,12 +58,12 @@ lines_none : (format : Format) (runs : ℕ) (ys : List Item) → item_lines form
 unfolding item_lines format_behind
 lines_none format runs ys = ap (λ (n : ℕ). item_lines format n ys) (sym (add-zero runs))
 
-behind_cons : (format : Format) (x : Item) (xs : List Item) → format_behind format (x ∷ xs) ≡ format_behind (format_by format x) xs
+pub format-cons : (format : Format) (x : Item) (xs : List Item) → format_behind format (x ∷ xs) ≡ format_behind (format_by format x) xs
 unfolding format_behind
-behind_cons format x xs = refl
+format-cons format x xs = refl
 
-runs_cons : (n : ℕ) (x : Item) (xs : List Item) → n + length (run_in x) + length (runs_in xs) ≡ n + length (runs_in (x ∷ xs))
-runs_cons n x xs = let m : length (runs_in (x ∷ xs)) ≡ length (run_in x) + length (runs_in xs) = length-append (run_in x) (runs_in xs) in
+pub runs-cons : (n : ℕ) (x : Item) (xs : List Item) → n + length (run_in x) + length (runs_in xs) ≡ n + length (runs_in (x ∷ xs))
+runs-cons n x xs = let m : length (runs_in (x ∷ xs)) ≡ length (run_in x) + length (runs_in xs) = length-append (run_in x) (runs_in xs) in
     omega arith
 
 -- the lines of items are those of the first ones and, by the format and the runs after these, those
@@ -78,9 +80,9 @@ lines_append format runs (x ∷ xs) ys =
     ∙ sym (append_assoc first (item_lines mid count xs) (item_lines (format_behind mid xs) (count + length (runs_in xs)) ys))
     ∙ ap (λ (lines : List ℕ). lines ++ item_lines (format_behind mid xs) (count + length (runs_in xs)) ys)
     (sym (lines_cons format runs x xs))
-    ∙ ap (λ (n : ℕ). item_lines format runs (x ∷ xs) ++ item_lines (format_behind mid xs) n ys) (runs_cons runs x xs)
+    ∙ ap (λ (n : ℕ). item_lines format runs (x ∷ xs) ++ item_lines (format_behind mid xs) n ys) (runs-cons runs x xs)
     ∙ ap (λ (f : Format). item_lines format runs (x ∷ xs) ++ item_lines f (runs + length (runs_in (x ∷ xs))) ys)
-    (sym (behind_cons format x xs))
+    (sym (format-cons format x xs))
 
 pub behind_append : (format : Format) (xs ys : List Item) → format_behind format (xs ++ ys) ≡ format_behind (format_behind format xs) ys
 unfolding format_behind
@@ -112,7 +114,7 @@ unfolding format_behind
 format_none_yet = refl
 
 -- the lines of a single item
-pub item_is : (format : Format) (runs : ℕ) (x : Item) → item_lines format runs (x ∷ [])
-    ≡ lines_at (format_by format x) (runs + length (run_in x)) x
-item_is format runs (items.Header p) = header_is format runs p
-item_is format runs (items.Frame f) = frame_is format runs f
+pub item_is : (format : Format) (layout : ElementLayout) (runs : ℕ) (x : Item) → item_lines format runs (x ∷ [])
+    ≡ lines_at Lines (format_by format x) layout (runs + length (run_in x)) x
+item_is format layout runs (items.Header p) = header_is format runs p
+item_is format layout runs (items.Frame f) = frame_is format runs f

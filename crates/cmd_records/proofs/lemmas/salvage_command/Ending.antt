@@ -35,12 +35,19 @@ use Rattle.probes.proofs.Shown.{all-reports}
 use Rattle.cli_answers.specs.declared.answer.Answer.TheVariants.{BadRecord}
 use Rattle.cli_answers.specs.Outcome.{Outcome, text_outcome, refusal}
 use Rattle.cmd_records.specs.declared.record_show.printer.Printer.{Printer}
+use Rattle.cmd_records.specs.declared.record_show.show_form.Notation.TheVariants.{Lines}
+use Rattle.cmd_records.specs.declared.record_show.show_form.ShowForm.{ShowForm}
 use Rattle.cmd_records.specs.salvage_command.Salvage.{outcome_by, salvaged_text, salvage_reports_outcome}
 use Rattle.cmd_records.specs.record_show.PrintedItems.{AreShown, IsFailed, showing}
 use Rattle.cmd_records.proofs.lemmas.command_ends.Meeting.{discarded}
+use Rattle.cmd_records.proofs.lemmas.record_show.Parts.{form_by}
 use Rattle.record_text.specs.declared.show_part.ShowPart.TheVariants.{Reports}
 use Rattle.cmd_records.specs.salvage_command.ReportEnds.{SawFirst, Ended}
 use Rattle.cmd_records.specs.command_ends.Results.{Gives, UnlessNoMemory}
+
+-- the form of a printer that prints no items
+abbrev pub reports_only : ShowForm
+reports_only = form_by Lines Reports
 
 -- ---- what can be saved
 
@@ -69,7 +76,7 @@ pub record AllSeen (first mid : AudienceState) (cycles : ℕ) (bytes : List ℕ)
   pub shows : Shows first mid (runs_in (items_in bytes))
 
 module _ (first mid : AudienceState) (printer : Printer) (given : List Item) (bytes : List ℕ) where
-  all-seen : items_in bytes ≡ given → AreShown Reports first mid printer given → list_any is_init given ≡ true
+  all-seen : items_in bytes ≡ given → AreShown reports_only first mid printer given → list_any is_init given ≡ true
       → AllSeen first mid printer.cycles bytes
   all-seen all h begun =
       let some = some_from given h.headed begun in
@@ -82,7 +89,7 @@ module _ (first mid : AudienceState) (printer : Printer) (given : List Item) (by
       }
 
   settle_fault-at : (fault : RecordFault) (begun : Bool) → printer.has_begun ≡ begun → settled_by begun (Err (Refused fault)) ≡ Ok tt
-      → items_in bytes ≡ given → AreShown Reports first mid printer given → AllSeen first mid printer.cycles bytes
+      → items_in bytes ≡ given → AreShown reports_only first mid printer given → AllSeen first mid printer.cycles bytes
   settle_fault-at fault true is settle_fault all h = all-seen all h (sym h.has_begun ∙ is)
   settle_fault-at fault false is settle_fault all h = absurd cc
 
@@ -92,7 +99,7 @@ module _ (first mid : AudienceState) (printer : Printer) (given : List Item) (by
 
   -- the reading came past the last item of a record that can be saved
   settle_fault-seen : (read : Result (Unit {0}) (Stopped RecordFault)) → settled_by printer.has_begun read ≡ Ok tt
-      → RecordRead read (showing Reports first mid printer) given bytes discarded → AllSeen first mid printer.cycles bytes
+      → RecordRead read (showing reports_only first mid printer) given bytes discarded → AllSeen first mid printer.cycles bytes
   settle_fault-seen (Ok u) settle_fault h =
       all-seen h.0.items h.1.stands (ap (list_any is_init) (sym h.0.items) ∙ whole_has_init bytes h.0.fault)
   settle_fault-seen (Err (Refused fault)) settle_fault h = settle_fault-at fault printer.has_begun refl settle_fault h.0.items h.1.stands
@@ -104,11 +111,11 @@ module _ (first mid : AudienceState) (printer : Printer) (given : List Item) (by
       → salvage_reports_outcome first bytes ≡ refusal (BadRecord 0 fault)
   unsaved fault all none = ap (outcome_of first bytes) (ap salvaged_from all.items ∙ none_from given none) ∙ ap (outcome_by None) all.fault
 
-  saw-given : IsPrefix given (items_in bytes) → AreShown Reports first mid printer given → SawFirst first mid bytes
+  saw-given : IsPrefix given (items_in bytes) → AreShown reports_only first mid printer given → SawFirst first mid bytes
   saw-given front h = record { seen = given; first = front; saw = all-reports h.watched }
 
   -- no lines are printed, so no write of it fails
-  no-write-at : StopsAt (Failed Write) (showing Reports first mid printer) given bytes discarded → ⊥
+  no-write-at : StopsAt (Failed Write) (showing reports_only first mid printer) given bytes discarded → ⊥
   no-write-at h = let n = proper-length h.2.wrote.0 h.2.more h.2.wrote.1 in let m = ap length h.2.all in omega (arith, n, m)
 
   module _ (took : List ℕ → Type 0) (a b : ℕ) where
@@ -121,7 +128,7 @@ module _ (first mid : AudienceState) (printer : Printer) (given : List Item) (by
 
     refused : (fault : RecordFault) (begun : Bool) → printer.has_begun ≡ begun
         → settled_by begun (Err (Refused fault)) ≡ Err (Refused fault) → AreAll given (Some fault) bytes
-        → AreShown Reports first mid printer given
+        → AreShown reports_only first mid printer given
         → Both (Refused fault)
     refused fault true is settle_fault all h = absurd cc
     refused fault false is settle_fault all h =
@@ -134,7 +141,7 @@ module _ (first mid : AudienceState) (printer : Printer) (given : List Item) (by
         )
 
     stopped : (stop : Stopped RecordFault) → settled_by printer.has_begun (Err stop) ≡ Err stop
-        → RecordRead (Err stop) (showing Reports first mid printer) given bytes discarded → Both stop
+        → RecordRead (Err stop) (showing reports_only first mid printer) given bytes discarded → Both stop
     stopped (Refused fault) settle_fault h = refused fault printer.has_begun refl settle_fault h.0 h.1.stands
     stopped (Failed Read) settle_fault h = (part-none took took _ (same-none took), saw-given h.0 h.1.stands)
     stopped (Failed Write) settle_fault h = absurd (no-write-at h)
@@ -235,7 +242,7 @@ module _ {first mid : AudienceState} {printer : Printer} {shelf : ShelfRun} {slo
   -- the reading stopped, and nothing was written
   pub ended-stopped : (read : Result (Unit {0}) (Stopped RecordFault)) (stop : Stopped RecordFault) (took : List ℕ → Type 0) (a b : ℕ)
       → settled_by printer.has_begun read ≡ Err stop
-      → (h : ItemsRead read (showing Reports first mid printer) shelf slot discarded)
+      → (h : ItemsRead read (showing reports_only first mid printer) shelf slot discarded)
       → Ended (Err stop) first mid h.read shelf slot (record { before = took; after = took; faults_before = a; faults_after = b })
   ended-stopped read stop took a b settle_fault h = record {
     gives = of-slot _ (λ bytes. Gives {T = Unit {0}} (BadRecord 0) (Err stop) (salvage_reports_outcome first bytes)
@@ -250,17 +257,17 @@ module _ {first mid : AudienceState} {printer : Printer} {shelf : ShelfRun} {slo
       is : read ≡ Err stop
       is = settle_fault-failure printer.has_begun read stop settle_fault
 
-      both : (bytes : List ℕ) → RecordRead read (showing Reports first mid printer) h.given bytes discarded
+      both : (bytes : List ℕ) → RecordRead read (showing reports_only first mid printer) h.given bytes discarded
           → Both first mid printer h.given bytes took a b stop
       both bytes r =
           stopped first mid printer h.given bytes took a b stop
           (subst (λ (x : Result (Unit {0}) (Stopped RecordFault)). settled_by printer.has_begun x ≡ Err stop) is settle_fault)
-          (subst (λ (x : Result (Unit {0}) (Stopped RecordFault)). RecordRead x (showing Reports first mid printer) h.given bytes
+          (subst (λ (x : Result (Unit {0}) (Stopped RecordFault)). RecordRead x (showing reports_only first mid printer) h.given bytes
           discarded) is r)
 
   -- all was read that can be saved
   pub ended-printed : (read result : Result (Unit {0}) (Stopped RecordFault)) (now : AudienceState) (out : SinkRun)
-      → settled_by printer.has_begun read ≡ Ok tt → (h : ItemsRead read (showing Reports first mid printer) shelf slot discarded)
+      → settled_by printer.has_begun read ≡ Ok tt → (h : ItemsRead read (showing reports_only first mid printer) shelf slot discarded)
       → ReportsPrinted result printer.cycles mid now out → Ended result first now h.read shelf slot out
   ended-printed read result now out settle_fault h p = record {
     gives = of-slot _ (λ bytes. Gives (BadRecord 0) result (salvage_reports_outcome first bytes) out)
@@ -271,19 +278,19 @@ module _ {first mid : AudienceState} {printer : Printer} {shelf : ShelfRun} {slo
     broken = broken-printed first mid now printer.cycles out result p;
   }
     where
-      all : (bytes : List ℕ) → RecordRead read (showing Reports first mid printer) h.given bytes discarded
+      all : (bytes : List ℕ) → RecordRead read (showing reports_only first mid printer) h.given bytes discarded
           → AllSeen first mid printer.cycles bytes
       all bytes r = settle_fault-seen first mid printer h.given bytes read settle_fault r
 
   -- no line was printed
   pub no-write : (read : Result (Unit {0}) (Stopped RecordFault)) (stop : Stopped RecordFault) {out : SinkRun}
-      → settled_by printer.has_begun read ≡ Err stop → ItemsRead read (showing Reports first mid printer) shelf slot discarded
+      → settled_by printer.has_begun read ≡ Err stop → ItemsRead read (showing reports_only first mid printer) shelf slot discarded
       → SinkTraffic out None → SinkTraffic out (failure_in {A = Unit {0}} (Err stop))
   no-write read stop {out} settle_fault h traffic = by stop (subst
-      (λ (x : Result (Unit {0}) (Stopped RecordFault)). RecordRead x (showing Reports first mid printer) h.given (h.read ++ []) discarded)
+      (λ (x : Result (Unit {0}) (Stopped RecordFault)). RecordRead x (showing reports_only first mid printer) h.given (h.read ++ []) discarded)
       (settle_fault-failure printer.has_begun read stop settle_fault) (h.record_read.each [] (λ end. refl)))
     where
-      by : (stop : Stopped RecordFault) → RecordRead (Err stop) (showing Reports first mid printer) h.given (h.read ++ []) discarded
+      by : (stop : Stopped RecordFault) → RecordRead (Err stop) (showing reports_only first mid printer) h.given (h.read ++ []) discarded
           → SinkTraffic out (failure_in {A = Unit {0}} (Err stop))
       by (Refused f) r = record { cause = λ e. absurd cc; counted = traffic.counted }
       by (Failed Read) r = record { cause = λ e. absurd cc; counted = traffic.counted }

@@ -15,7 +15,7 @@ use Rattle.record_reader.proofs.lemmas.item_reader.Passing.{passed-on}
 use Rattle.record_reader.proofs.ItemTaker.{lifts-same, no-read}
 use Rattle.record_reader.proofs.Views.{Running, Answered, answered, answered-as, running-new, next-first, next-given, running-next, all-taken, reader-stopped}
 use Rattle.record_reader.proofs.Views.{taker-stopped, no-write, none-left}
-use Rattle.record_text.specs.declared.show_part.ShowPart.{ShowPart}
+use Rattle.cmd_records.specs.declared.record_show.show_form.ShowForm.{ShowForm}
 use Rattle.cmd_records.specs.declared.record_show.printer.Printer.{Printer}
 use Rattle.cmd_records.specs.record_show.PrintedItems.{AreShown, Kept, showing}
 use Rattle.cmd_records.proofs.lemmas.record_show.Parts.{none-yet}
@@ -23,30 +23,30 @@ use Rattle.cmd_records.proofs.lemmas.record_show.Taken.{kept-same, kept-then, sh
 use Rattle.cmd_records.proofs.record_show.show_items.show_items.Goals as goal
 
 -- what the printer took of it
-takes-next : {part : ShowPart} {first now last : AudienceState} {old new : Printer} {start mid state : ShelfState} {slot : ℕ}
+takes-next : {form : ShowForm} {first now last : AudienceState} {old new : Printer} {start mid state : ShelfState} {slot : ℕ}
     {reader : ItemReader} {before after : List ℕ → Type 0} {bytes : List ℕ} {result : Result (Unit {0}) (Stopped RecordFault)}
-    {out : SinkRun} (h : Running (showing part first now old) start mid slot reader before after) (next : ItemReader) (view : ItemView)
-    (answer : Answered h state next (Ok (Some view))) → old.part ≡ part
+    {out : SinkRun} (h : Running (showing form first now old) start mid slot reader before after) (next : ItemReader) (view : ItemView)
+    (answer : Answered h state next (Ok (Some view))) → old.form ≡ form
     → ((item : Item) → Holds next view item → IsSpelling view item bytes)
-    → ((first : AudienceState) (given : List Item) (item : Item) → AreShown old.part first now old given → IsNext given item view bytes
-    → Takes result (showing old.part first last new) given item [] out)
-    → Takes result (showing part first last new) h.given answer.2.item [] out
+    → ((first : AudienceState) (given : List Item) (item : Item) → AreShown old.form first now old given → IsNext given item view bytes
+    → Takes result (showing old.form first last new) given item [] out)
+    → Takes result (showing form first last new) h.given answer.2.item [] out
 takes-next {first = first} {now = now} {last = last} {old = old} {new = new} {bytes = bytes} {result = result} {out = out} h next view
     answer
     is spelled takes =
-    subst (λ (p : ShowPart). AreShown p first now old h.given → IsNext h.given answer.2.item view bytes
-    → Takes result (showing p first last new) h.given answer.2.item [] out) is (takes first h.given answer.2.item) h.stands
+    subst (λ (f : ShowForm). AreShown f first now old h.given → IsNext h.given answer.2.item view bytes
+    → Takes result (showing f first last new) h.given answer.2.item [] out) is (takes first h.given answer.2.item) h.stands
     (next-given h next view answer bytes spelled)
 
 pub items-init : goal.items-init
 items-init g c =
     let now = seen (λ b. (goal.Probe-dyn g (b.vtable, b.value)).life b.value) c.args.audience.now in
     record {
-      running = running-new (showing c.args.printer.now.part now now c.args.printer.now) (g.S.Slots.sees c.args.shelf.now) c.args.reader.now
+      running = running-new (showing c.args.printer.now.form now now c.args.printer.now) (g.S.Slots.sees c.args.shelf.now) c.args.reader.now
           (g.K.Sink.took c.args.sink.now) c.requires.new (c.requires.fresh now)
-          (none-yet c.args.printer.now.part);
-      part = refl;
-      kept = kept-same c.args.printer.now.part now;
+          (none-yet c.args.printer.now.form);
+      form = refl;
+      kept = kept-same c.args.printer.now.form.part now;
       shelf_traffic = search rules;
       sink_traffic = search rules;
     }
@@ -56,12 +56,12 @@ returns-in_err-view-clause-items g c =
     let h = c.items.invariant.running in
     let first = seen (λ b. (goal.Probe-dyn g (b.vtable, b.value)).life b.value) c.args.audience.now in
     let now = seen (λ b. (goal.Probe-dyn g (b.vtable, b.value)).life b.value) c.items.audience in
-    passed-on (λ (r : Result (Unit {0}) (Stopped RecordFault)). ItemsRead r (showing c.args.printer.now.part first now c.items.printer)
+    passed-on (λ (r : Result (Unit {0}) (Stopped RecordFault)). ItemsRead r (showing c.args.printer.now.form first now c.items.printer)
     (shelf_run g.S.Slots.sees g.S.Slots.stays c.args.shelf.now c.next.new.shelf) (slot_of c.args.reader.now)
     (sink_run g.K.Sink.took g.K.Sink.faults c.args.sink.now c.items.sink))
     c.from_residual.result c.from_residual.ensures.1
     (reader-stopped h c.next.new.self c.in_err-view.field-0.0 c.in_err-view.field-0.0
-    (lifts-same (showing c.args.printer.now.part first now c.items.printer) (λ f. refl) c.in_err-view.field-0.0)
+    (lifts-same (showing c.args.printer.now.form first now c.items.printer) (λ f. refl) c.in_err-view.field-0.0)
     (answered h c.next.new.self (Err c.in_err-view.field-0.0) c.in_err-view.ensures.item))
 
 pub returns-in_err-view-clause-sink_traffic : goal.returns-in_err-view-clause-sink_traffic
@@ -107,14 +107,14 @@ items-preserved g c =
     let now = seen (λ b. (goal.Probe-dyn g (b.vtable, b.value)).life b.value) c.items.audience in
     let last = seen (λ b. (goal.Probe-dyn g (b.vtable, b.value)).life b.value) c.take.new.audience in
     let answer = answered-as h c.next.new.self c.in-Some.is c.in_ok-view.ensures.item in
-    let takes = takes-next h c.next.new.self c.in-Some.view answer c.items.invariant.part c.bytes.ensures c.in_ok-take.ensures.takes in
+    let takes = takes-next h c.next.new.self c.in-Some.view answer c.items.invariant.form c.bytes.ensures c.in_ok-take.ensures.takes in
     record {
-      running = running-next h c.next.new.self c.in-Some.view (showing c.args.printer.now.part first last c.take.new.self) refl answer
+      running = running-next h c.next.new.self c.in-Some.view (showing c.args.printer.now.form first last c.take.new.self) refl answer
           c.in_ok-view.ensures.slot
           takes;
-      part = c.in_ok-take.ensures.part ∙ c.items.invariant.part;
-      kept = kept-then c.args.printer.now.part first now last c.items.invariant.kept
-          (subst (λ (p : ShowPart). Kept p now last) c.items.invariant.part c.in_ok-take.ensures.kept);
+      form = c.in_ok-take.ensures.form ∙ c.items.invariant.form;
+      kept = kept-then c.args.printer.now.form.part first now last c.items.invariant.kept
+          (subst (λ (f : ShowForm). Kept f.part now last) c.items.invariant.form c.in_ok-take.ensures.kept);
       shelf_traffic = search rules;
       sink_traffic = search rules;
     }
@@ -125,12 +125,12 @@ returns-in_err-take-clause-items g c =
     let first = seen (λ b. (goal.Probe-dyn g (b.vtable, b.value)).life b.value) c.args.audience.now in
     let last = seen (λ b. (goal.Probe-dyn g (b.vtable, b.value)).life b.value) c.take.new.audience in
     let answer = answered-as h c.next.new.self c.in-Some.is c.in_ok-view.ensures.item in
-    let takes = takes-next h c.next.new.self c.in-Some.view answer c.items.invariant.part c.bytes.ensures c.in_err-take.ensures.takes in
-    passed-on (λ (r : Result (Unit {0}) (Stopped RecordFault)). ItemsRead r (showing c.args.printer.now.part first last c.take.new.self)
+    let takes = takes-next h c.next.new.self c.in-Some.view answer c.items.invariant.form c.bytes.ensures c.in_err-take.ensures.takes in
+    passed-on (λ (r : Result (Unit {0}) (Stopped RecordFault)). ItemsRead r (showing c.args.printer.now.form first last c.take.new.self)
     (shelf_run g.S.Slots.sees g.S.Slots.stays c.args.shelf.now c.next.new.shelf)
     (slot_of c.args.reader.now) (sink_run g.K.Sink.took g.K.Sink.faults c.args.sink.now c.take.new.sink))
     c.from_residual-in_err-take.result c.from_residual-in_err-take.ensures.1
-    (taker-stopped c.next.new.self c.in-Some.view c.in_err-take.field-0.0 (showing c.args.printer.now.part first last c.take.new.self)
+    (taker-stopped c.next.new.self c.in-Some.view c.in_err-take.field-0.0 (showing c.args.printer.now.form first last c.take.new.self)
     refl h answer takes)
 
 pub returns-in_err-take-clause-kept : goal.returns-in_err-take-clause-kept
@@ -138,14 +138,14 @@ returns-in_err-take-clause-kept g c =
     let first = seen (λ b. (goal.Probe-dyn g (b.vtable, b.value)).life b.value) c.args.audience.now in
     let now = seen (λ b. (goal.Probe-dyn g (b.vtable, b.value)).life b.value) c.items.audience in
     let last = seen (λ b. (goal.Probe-dyn g (b.vtable, b.value)).life b.value) c.take.new.audience in
-    kept-then c.args.printer.now.part first now last c.items.invariant.kept
-    (subst (λ (p : ShowPart). Kept p now last) c.items.invariant.part c.in_err-take.ensures.kept)
+    kept-then c.args.printer.now.form.part first now last c.items.invariant.kept
+    (subst (λ (f : ShowForm). Kept f.part now last) c.items.invariant.form c.in_err-take.ensures.kept)
 
 pub returns-in_err-take-clause-shelf_traffic : goal.returns-in_err-take-clause-shelf_traffic
 returns-in_err-take-clause-shelf_traffic g c =
     let h = c.items.invariant.running in
     let answer = answered-as h c.next.new.self c.in-Some.is c.in_ok-view.ensures.item in
-    let takes = takes-next h c.next.new.self c.in-Some.view answer c.items.invariant.part c.bytes.ensures c.in_err-take.ensures.takes in
+    let takes = takes-next h c.next.new.self c.in-Some.view answer c.items.invariant.form c.bytes.ensures c.in_err-take.ensures.takes in
     let traffic : ShelfTraffic (shelf_run g.S.Slots.sees g.S.Slots.stays c.args.shelf.now c.next.new.shelf) None = search rules in
     passed-on (λ (r : Result (Unit {0}) (Stopped RecordFault)). ShelfTraffic
     (shelf_run g.S.Slots.sees g.S.Slots.stays c.args.shelf.now c.next.new.shelf) (failure_in r))

@@ -10,7 +10,7 @@ use Rattle.record_grammar.specs.declared.record_fault.RecordFault.{RecordFault}
 use Rattle.record_reader.specs.item_reader.StandsFor.{slot_of}
 use Rattle.record_reader.proofs.lemmas.item_reader.Passing.{passed-on}
 use Rattle.cmd_records.specs.salvage_command.ReportEnds.{Ended}
-use Rattle.cmd_records.proofs.lemmas.record_show.Answering.{of-part}
+use Rattle.cmd_records.proofs.lemmas.record_show.Answering.{of-form}
 use Rattle.cmd_records.proofs.lemmas.salvage_command.Ending.{ended-stopped, ended-printed, reports-printed, no-read-failed, no-write}
 use Rattle.cmd_records.proofs.salvage_command.report_salvage.report_salvage.Goals as goal
 
@@ -21,7 +21,7 @@ returns-in_err-settle_fault-clause-run g c =
     let now = seen (λ b. (goal.Probe-dyn g (b.vtable, b.value)).life b.value) s.new.audience in
     let shelf = shelf_run g.S.Slots.sees g.S.Slots.stays c.args.shelf.now s.new.shelf in
     let out = sink_run g.K.Sink.took g.K.Sink.faults c.args.sink.now c.args.sink.now in
-    let h = of-part c.new-printer.ensures.part s.ensures.items in (
+    let h = of-form c.new-printer.ensures.form s.ensures.items in (
       h.read,
       passed-on (λ (r : Result (Unit {0}) (Stopped RecordFault)). Ended r first now h.read shelf (slot_of c.args.reader.now) out)
           c.from_residual.result c.from_residual.ensures.1
@@ -38,7 +38,7 @@ returns-in_err-settle_fault-clause-sink_traffic g c =
     passed-on (λ (r : Result (Unit {0}) (Stopped RecordFault)). SinkTraffic out (failure_in r)) c.from_residual.result
     c.from_residual.ensures.1
     (no-write s.result c.in_err-settle_fault.field-0.0 (sym c.settle_fault.ensures ∙ c.in_err-settle_fault.was)
-    (of-part c.new-printer.ensures.part s.ensures.items)
+    (of-form c.new-printer.ensures.form s.ensures.items)
     traffic)
 
 pub returns-in_err-finish-clause-run : goal.returns-in_err-finish-clause-run
@@ -48,7 +48,7 @@ returns-in_err-finish-clause-run g c =
     let now = seen (λ b. (goal.Probe-dyn g (b.vtable, b.value)).life b.value) c.finish.new.self in
     let out = sink_run g.K.Sink.took g.K.Sink.faults c.args.sink.now c.args.sink.now in
     let shelf = shelf_run g.S.Slots.sees g.S.Slots.stays c.args.shelf.now s.new.shelf in
-    let h = of-part c.new-printer.ensures.part s.ensures.items in (
+    let h = of-form c.new-printer.ensures.form s.ensures.items in (
       h.read,
       passed-on (λ (r : Result (Unit {0}) (Stopped RecordFault)). Ended r first now h.read shelf (slot_of c.args.reader.now) out)
           c.from_residual-in_err-finish.result c.from_residual-in_err-finish.ensures.1
@@ -63,7 +63,7 @@ returns-clause-run g c =
     let mid = seen (λ b. (goal.Probe-dyn g (b.vtable, b.value)).life b.value) s.new.audience in
     let now = seen (λ b. (goal.Probe-dyn g (b.vtable, b.value)).life b.value) c.finish.new.self in
     let out = sink_run g.K.Sink.took g.K.Sink.faults c.args.sink.now c.print_reports.new.sink in
-    let h = of-part c.new-printer.ensures.part s.ensures.items in
+    let h = of-form c.new-printer.ensures.form s.ensures.items in
     let p = c.print_reports in (
       h.read,
       ended-printed s.result p.result now out (sym c.settle_fault.ensures ∙ c.in_ok-settle_fault.was) h

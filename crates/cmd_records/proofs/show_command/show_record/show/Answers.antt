@@ -25,24 +25,24 @@ returns-in-Err-clause-meets g c =
 
 pub returns-in-Err-clause-broken : goal.returns-in-Err-clause-broken
 returns-in-Err-clause-broken g c e t =
-    unopened (λ read. lines_of c.args.part (items_in read)) (g.K.Sink.took c.args.out.now)
-    (ap (lines_of c.args.part) no-items ∙ no-lines c.args.part) c.in-Err.ensures.slots
+    unopened (λ read. lines_of c.args.form (items_in read)) (g.K.Sink.took c.args.out.now)
+    (ap (lines_of c.args.form) no-items ∙ no-lines c.args.form) c.in-Err.ensures.slots
 
 pub returns-in-Err-clause-saw : goal.returns-in-Err-clause-saw
 returns-in-Err-clause-saw g c ne t =
     let out = sink_run g.K.Sink.took g.K.Sink.faults c.args.out.now c.args.out.now in
-    saw-unread c.args.part _ _ out (grew-none _)
+    saw-unread c.args.form _ _ out (grew-none _)
 
 pub returns-in-Err-clause-kept : goal.returns-in-Err-clause-kept
-returns-in-Err-clause-kept g c = kept-unread c.args.part _
+returns-in-Err-clause-kept g c = kept-unread c.args.form.part _
 
 pub returns-clause-meets : goal.returns-clause-meets
 returns-clause-meets g c =
     let s = c.show_run-shown in
     let old = seen (λ b. (goal.Probe-dyn g (b.vtable, b.value)).life b.value) c.args.audience.now in
     let out = sink_run g.K.Sink.took g.K.Sink.faults c.args.out.now s.new.sink in
-    meets-record c.in-Ok.ensures.opens c.new-reader.ensures.slot s.result c.record_answer.result (show_outcome c.args.part old) out
-    c.record_answer.ensures.is (show-gives c.args.part old out s.result s.ensures.run.1.answers) c.in-Ok.ensures.traffic.counted
+    meets-record c.in-Ok.ensures.opens c.new-reader.ensures.slot s.result c.record_answer.result (show_outcome c.args.form old) out
+    c.record_answer.ensures.is (show-gives c.args.form old out s.result s.ensures.run.1.answers) c.in-Ok.ensures.traffic.counted
     s.ensures.shelf_traffic s.ensures.sink_traffic
 
 pub returns-clause-broken : goal.returns-clause-broken
@@ -50,9 +50,9 @@ returns-clause-broken g c =
     let s = c.show_run-shown in
     let run = s.ensures.run in
     let out = sink_run g.K.Sink.took g.K.Sink.faults c.args.out.now s.new.sink in
-    broken-off c.in-Ok.ensures.opens c.new-reader.ensures.slot s.result (λ read. lines_of c.args.part (items_in read)) out
+    broken-off c.in-Ok.ensures.opens c.new-reader.ensures.slot s.result (λ read. lines_of c.args.form (items_in read)) out
     c.record_answer.ensures.is run.1.answers.reads
-    (λ e. subst (λ (r : Result Shown (Stopped RecordFault)). WroteRead r c.args.part run.0 out) e run.1.wrote)
+    (λ e. subst (λ (r : Result Shown (Stopped RecordFault)). WroteRead r c.args.form run.0 out) e run.1.wrote)
 
 pub returns-clause-saw : goal.returns-clause-saw
 returns-clause-saw g c ne is_known =
@@ -62,7 +62,7 @@ returns-clause-saw g c ne is_known =
     let out = sink_run g.K.Sink.took g.K.Sink.faults c.args.out.now s.new.sink in
     unless-no-memory s.result c.record_answer.result c.record_answer.ensures.is
     (of-name c.in-Ok.ensures.opens c.new-reader.ensures.slot
-    (λ bytes. UnlessNoMemory s.result (SawFirst c.args.part old now bytes out)) s.ensures.run.1.sees is_known) ne
+    (λ bytes. UnlessNoMemory s.result (SawFirst c.args.form old now bytes out)) s.ensures.run.1.sees is_known) ne
 
 pub returns-clause-gone : goal.returns-clause-gone
 returns-clause-gone g c =

@@ -13,6 +13,6 @@ use Rattle.cmd_records.proofs.record_show.printer.Printer.print_item.Goals as go
 pub returns-in_err-put-clause-wrote : goal.returns-in_err-put-clause-wrote
 returns-in_err-put-clause-wrote g c item h =
     passed-on (λ (r : Result (Unit {0}) (Stopped RecordFault)). Wrote r []
-    (printed_of c.args.self.now.part (format_of c.args.view.place) c.args.self.now.cycles item)
+    (printed_of c.args.self.now.form (format_of c.args.view.place) c.args.self.now.layout c.args.self.now.cycles item)
     (sink_run g.K.Sink.took g.K.Sink.faults c.args.sink.now c.args.sink.now)) c.from_residual.result c.from_residual.ensures.1
     ([], prefix-none _, grew-none _)
