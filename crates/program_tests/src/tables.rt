@@ -87,6 +87,7 @@ record bank s.two --seed 18446744073709551616|2||bad words/
 compare A|2||bad words/
 compare A A A A A A A A A|2||bad words/
 show -x|2||bad words/
+show A --reports --json|2||bad words/
 needs |2||bad words/
 --workers 2 record bank s.two|2||bad words/
 record m.toml s.two|3||bad manifest: not toml/
