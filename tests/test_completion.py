@@ -49,9 +49,11 @@ OFFERS = {
     "det record --seed 7 ": MANIFESTS | FOLDERS,
     "det record --seed 7 a.toml -": {"--workers", "--strict"},
     "det record -": {"--seed", "--workers", "--strict", "--help"},
-    "det show a.rec ": {"--reports", "--cycle"},
+    "det show a.rec ": {"--reports", "--cycle", "--json"},
     "det show a.rec --reports -": set(),
-    "det show a.rec --cycle 2 ": set(),
+    "det show a.rec --cycle 2 ": {"--json"},
+    "det show a.rec --json ": {"--cycle"},
+    "det show --json --cycle 2 a.rec ": set(),
     "det demo ": {"a.stim"} | FOLDERS,
     "det demo a.stim ": set(),
     "det sim ": set(),
@@ -159,7 +161,7 @@ def test_a_change_is_reported_until_the_file_is_written(
     assert completion(copy, "--check") == Outcome(0, b"", b"")
 
 
-# Forms of a synopsis that no command has: alternatives of several options, and all further words.
+# Forms of a synopsis that no command has: an option with two values, and all further words.
 SHOW = "[--reports | [--cycle C] [--all]] [--flip K F] [-- WORD..]"
 OTHER_OFFERS = {
     "det show a ": {"--reports", "--cycle", "--all", "--flip", "--"},

@@ -36,6 +36,7 @@ OPTIONS = {
     "--reports": "",
     "--dissent": "",
     "--strict": "",
+    "--json": "",
 }
 
 

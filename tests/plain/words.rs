@@ -32,7 +32,7 @@ impl Command<'_> {
 const COMMANDS: [(&str, usize, usize, &[&str]); 11] = [
     ("demo", 1, 1, &[]),
     ("record", 2, 2, &["--seed", "--workers", "--strict"]),
-    ("show", 1, 1, &["--reports", "--cycle"]),
+    ("show", 1, 1, &["--reports", "--cycle", "--json"]),
     ("replay", 1, 1, &["--workers"]),
     ("check", 1, 1, &["--workers"]),
     ("upgrade", 1, 1, &["--workers"]),
@@ -91,7 +91,8 @@ fn read_command<'a>(words: &[&'a str]) -> Option<Command<'a>> {
         }
     }
     let is_good = (least..=most).contains(&names.len()) && names.iter().all(|name| is_name(name));
-    let asks_twice = options.contains_key("--reports") && options.contains_key("--cycle");
+    let has = |option: &str| options.contains_key(option);
+    let asks_twice = has("--reports") && (has("--cycle") || has("--json"));
     (is_good && !asks_twice).then_some(Command {
         word,
         names,

@@ -7,7 +7,7 @@ use Rattle.std.proofs.lemmas.Slice.Eq.{bytes_eq-Decides}
 use Rattle.cli_words.specs.declared.table.CommandWord.{CommandWord}
 use Rattle.cli_words.specs.declared.table.CommandWord.TheVariants.{Demo}
 use Rattle.cli_words.specs.declared.table.OptionWord.{OptionWord}
-use Rattle.cli_words.specs.declared.table.OptionWord.TheVariants.{Workers, Seed, Cycle, Reports, Dissent, Strict}
+use Rattle.cli_words.specs.declared.table.OptionWord.TheVariants.{Workers, Seed, Cycle, Reports, Dissent, Strict, Json}
 use Rattle.cli_words.specs.declared.table.TheConstants.{OPTIONS}
 use Rattle.cli_words.specs.declared.options.Options.{Options}
 use Rattle.cli_words.specs.Table.{row}
@@ -124,6 +124,7 @@ values-own Cycle options = append-nil (option_to_list (value_of Cycle options))
 values-own Reports options = append-nil (option_to_list (value_of Reports options))
 values-own Dissent options = append-nil (option_to_list (value_of Dissent options))
 values-own Strict options = append-nil (option_to_list (value_of Strict options))
+values-own Json options = append-nil (option_to_list (value_of Json options))
 
 given : (c : CommandValue) → Gives (map (λ n. name n) c.names ++ flat_map (given_items c.options) OPTIONS) c
 given c =

@@ -1,7 +1,7 @@
 -- Items that give a command are read as it.
-use Rattle.std.proofs.Common.{◌≡◌, ℕ, ◌<◌, ◌≤◌, List, [], ◌∷◌, ◌++◌, length, Bool, true, false, ◌&&◌, not, cond, nat_le, refl, sym, ◌∙◌, ap}
+use Rattle.std.proofs.Common.{◌≡◌, ℕ, ◌<◌, ◌≤◌, List, [], ◌∷◌, ◌++◌, length, Bool, true, false, not, cond, nat_le, refl, sym, ◌∙◌, ap}
 use Rattle.std.proofs.Common.{subst, arith, append-nil, append_assoc, length-append}
-use Rattle.std.specs.Prelude.{Option, Some, None, is_some, All, option_to_list}
+use Rattle.std.specs.Prelude.{Option, Some, None, All, option_to_list}
 use Rattle.std.specs.Option.{option_and_then}
 use Rattle.std.proofs.lemmas.Bool.{and_parts, and_from, le-leb, not_from_false}
 use Rattle.std.proofs.lemmas.List.Elements.{All-head, All-tail}
@@ -10,7 +10,7 @@ use Rattle.cli_words.specs.declared.table.OptionWord.{OptionWord}
 use Rattle.cli_words.specs.declared.options.Options.{Options}
 use Rattle.cli_words.specs.Names.{is_name, is_name_of, is_of_kind}
 use Rattle.cli_words.specs.Table.{row, command_word, option_row, is_among}
-use Rattle.cli_words.specs.Command.{CommandValue, with_given}
+use Rattle.cli_words.specs.Command.{CommandValue, with_given, has_conflict}
 use Rattle.cli_words.specs.Ranges.{value_of, IsWithin, IsInRange}
 use Rattle.cli_words.specs.Reading.{into_reading, bare_command, with_words, into_command, read_by}
 use Rattle.cli_words.specs.Items.{Item, name, option, words_in, names_in, is_same, values_in, Gives}
@@ -133,8 +133,8 @@ fits-range c range = record { names = range.names; most = range.most; options = 
 finishes : (c : CommandValue) → IsInRange c → into_command (into_reading c) ≡ Some c
 finishes c range =
     ap (λ (b : Bool). cond b (Some c) None)
-    (and_from (nat_le (row c.word).least (length c.names)) (not (c.options.reports && is_some c.options.cycle))
-    (le-leb (row c.word).least (length c.names) range.least) (not_from_false (c.options.reports && is_some c.options.cycle) range.apart))
+    (and_from (nat_le (row c.word).least (length c.names)) (not (has_conflict c.options))
+    (le-leb (row c.word).least (length c.names) range.least) (not_from_false (has_conflict c.options) range.apart))
 
 begins : (items : List Item) (c : CommandValue) → Gives items c → Grows (bare_command c.word).command items c
 begins items c gives = record {

@@ -9,7 +9,7 @@ use Rattle.std.proofs.lemmas.Slice.Eq.{bytes_eq-Decides}
 use Rattle.cli_words.specs.declared.table.CommandWord.{CommandWord}
 use Rattle.cli_words.specs.declared.table.CommandWord.TheVariants as words
 use Rattle.cli_words.specs.declared.table.OptionWord.{OptionWord}
-use Rattle.cli_words.specs.declared.table.OptionWord.TheVariants.{Workers, Seed, Cycle, Reports, Dissent, Strict}
+use Rattle.cli_words.specs.declared.table.OptionWord.TheVariants.{Workers, Seed, Cycle, Reports, Dissent, Strict, Json}
 use Rattle.cli_words.specs.declared.table.OptionSet.{OptionSet}
 use Rattle.cli_words.specs.declared.table.TheConstants.{OPTIONS, COMMANDS}
 use Rattle.cli_words.specs.declared.options.Options.{Options}
@@ -37,6 +37,7 @@ own-option Cycle = (refl, refl)
 own-option Reports = (refl, refl)
 own-option Dissent = (refl, refl)
 own-option Strict = (refl, refl)
+own-option Json = (refl, refl)
 
 pub option-is : (word : List ℕ) (o : OptionWord) → option_word word ≡ Some o → (option_row o).word ≡ word
 option-is word o e =
@@ -92,6 +93,7 @@ small Cycle n e within = omega (arith, within.1)
 small Reports n e within = absurd cc
 small Dissent n e within = absurd cc
 small Strict n e within = absurd cc
+small Json n e within = absurd cc
 
 flag-value : (range : Option (ℕ × ℕ)) (n : ℕ) → is_some range ≡ false → IsWithin range n → n ≡ 0
 flag-value (Some range) n e within = absurd cc
@@ -171,6 +173,8 @@ told-value Dissent Dissent n options within = ap (λ (m : ℕ). Some m) (sym wit
 told-value Dissent p n options within = refl
 told-value Strict Strict n options within = ap (λ (m : ℕ). Some m) (sym within)
 told-value Strict p n options within = refl
+told-value Json Json n options within = ap (λ (m : ℕ). Some m) (sym within)
+told-value Json p n options within = refl
 
 pub same-itself : (o : OptionWord) → is_same o o ≡ true
 same-itself Workers = refl
@@ -179,6 +183,7 @@ same-itself Cycle = refl
 same-itself Reports = refl
 same-itself Dissent = refl
 same-itself Strict = refl
+same-itself Json = refl
 
 flag-none : (flag : Bool) → value_if flag ≡ None → flag ≡ false
 flag-none true e = absurd cc
@@ -191,6 +196,7 @@ none-not_given Cycle options e = ap (λ (v : Option ℕ). is_some v) e
 none-not_given Reports options e = flag-none options.reports e
 none-not_given Dissent options e = flag-none options.dissent e
 none-not_given Strict options e = flag-none options.strict e
+none-not_given Json options e = flag-none options.json e
 
 not_given-some : (v : Option ℕ) → is_some v ≡ false → v ≡ None
 not_given-some (Some n) e = absurd cc
@@ -203,6 +209,7 @@ not_given-none Cycle options e = not_given-some options.cycle e
 not_given-none Reports options e = ap value_if e
 not_given-none Dissent options e = ap value_if e
 not_given-none Strict options e = ap value_if e
+not_given-none Json options e = ap value_if e
 
 same-value : (a b : Option ℕ) → option_to_list a ≡ option_to_list b → a ≡ b
 same-value (Some x) (Some y) e = cc
@@ -222,6 +229,8 @@ same-options a b each =
     ap (λ (v : Option ℕ). record a { workers = v }) (same-value a.workers b.workers (each Workers))
     ∙ ap (λ (v : Option ℕ). record a { workers = b.workers; seed = v }) (same-value a.seed b.seed (each Seed))
     ∙ ap (λ (v : Option ℕ). record a { workers = b.workers; seed = b.seed; cycle = v }) (same-value a.cycle b.cycle (each Cycle))
-    ∙ ap (λ (v : Bool). record b { reports = v; dissent = a.dissent; strict = a.strict }) (same-flag a.reports b.reports (each Reports))
-    ∙ ap (λ (v : Bool). record b { dissent = v; strict = a.strict }) (same-flag a.dissent b.dissent (each Dissent))
-    ∙ ap (λ (v : Bool). record b { strict = v }) (same-flag a.strict b.strict (each Strict))
+    ∙ ap (λ (v : Bool). record b { reports = v; dissent = a.dissent; strict = a.strict; json = a.json })
+    (same-flag a.reports b.reports (each Reports))
+    ∙ ap (λ (v : Bool). record b { dissent = v; strict = a.strict; json = a.json }) (same-flag a.dissent b.dissent (each Dissent))
+    ∙ ap (λ (v : Bool). record b { strict = v; json = a.json }) (same-flag a.strict b.strict (each Strict))
+    ∙ ap (λ (v : Bool). record b { json = v }) (same-flag a.json b.json (each Json))

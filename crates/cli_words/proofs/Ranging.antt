@@ -7,13 +7,13 @@ use Rattle.std.proofs.lemmas.Bool.{and_parts, ltb-true, leb-true, not-true}
 use Rattle.std.proofs.lemmas.List.Elements.{All-nil, All-push}
 use Rattle.cli_words.specs.declared.table.CommandWord.{CommandWord}
 use Rattle.cli_words.specs.declared.table.OptionWord.{OptionWord}
-use Rattle.cli_words.specs.declared.table.OptionWord.TheVariants.{Workers, Seed, Cycle, Reports, Dissent, Strict}
+use Rattle.cli_words.specs.declared.table.OptionWord.TheVariants.{Workers, Seed, Cycle, Reports, Dissent, Strict, Json}
 use Rattle.cli_words.specs.declared.options.Options.{Options}
 use Rattle.cli_words.specs.declared.options.TheConstants.{NOTHING_GIVEN}
 use Rattle.cli_words.specs.Number.{number_of}
 use Rattle.cli_words.specs.Names.{is_name_of}
 use Rattle.cli_words.specs.Table.{row, command_word, option_row, option_word, option_in, is_among}
-use Rattle.cli_words.specs.Command.{CommandValue, is_given, with_given}
+use Rattle.cli_words.specs.Command.{CommandValue, is_given, with_given, has_conflict}
 use Rattle.cli_words.specs.Ranges.{value_of, IsWithin, IsInRange}
 use Rattle.cli_words.specs.Reading.{Reading, into_reading, bare_command, with_name, is_in_range, with_number, with_value, with_option}
 use Rattle.cli_words.specs.Reading.{with_next, with_word, with_words, is_whole, into_command, read_by, in_long_form}
@@ -35,6 +35,8 @@ told-cases Dissent Dissent n m options within e = inl (refl, cc)
 told-cases Dissent p n m options within e = inr e
 told-cases Strict Strict n m options within e = inl (refl, cc)
 told-cases Strict p n m options within e = inr e
+told-cases Json Json n m options within e = inl (refl, cc)
+told-cases Json p n m options within e = inr e
 
 pub not_given : (o : OptionWord) → value_of o NOTHING_GIVEN ≡ None
 not_given Workers = refl
@@ -43,6 +45,7 @@ not_given Cycle = refl
 not_given Reports = refl
 not_given Dissent = refl
 not_given Strict = refl
+not_given Json = refl
 
 pub within-range : (range : Option (ℕ × ℕ)) (n : ℕ) → is_in_range range n ≡ true → IsWithin range n
 within-range (Some (least, most)) n e = let both =
@@ -151,13 +154,13 @@ words-fit (first ∷ rest) r fits = by_more (with_word first r) (word-fits first
 into_command-fits : (r : Reading) → FitsSoFar r → IfSome (into_command r) IsInRange
 into_command-fits r fits = if_true IsInRange (is_whole r) r.command (λ passed.
     let least = nat_le (row r.command.word).least (length r.command.names) in
-    let outer = and_parts (is_none r.awaited && least) (not (r.command.options.reports && is_some r.command.options.cycle)) passed in
+    let outer = and_parts (is_none r.awaited && least) (not (has_conflict r.command.options)) passed in
     let inner = and_parts (is_none r.awaited) least outer.0 in record {
       names = fits.0.names;
       least = leb-true (row r.command.word).least (length r.command.names) inner.1;
       most = fits.0.most;
       options = fits.0.options;
-      apart = not-true (r.command.options.reports && is_some r.command.options.cycle) outer.1;
+      apart = not-true (has_conflict r.command.options) outer.1;
     })
 
 read-fits : (rest : List (List ℕ)) (word : CommandWord) → IfSome (read_by rest word) IsInRange

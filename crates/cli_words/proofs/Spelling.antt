@@ -11,7 +11,7 @@ use Rattle.cli_words.specs.declared.options.Options.{Options}
 use Rattle.cli_words.specs.Number.{number_of}
 use Rattle.cli_words.specs.Names.{is_name_of}
 use Rattle.cli_words.specs.Table.{row, command_word, option_row, option_word, option_in, is_among}
-use Rattle.cli_words.specs.Command.{CommandValue, is_given, with_given}
+use Rattle.cli_words.specs.Command.{CommandValue, is_given, with_given, has_conflict}
 use Rattle.cli_words.specs.Ranges.{value_of, IsWithin}
 use Rattle.cli_words.specs.Reading.{Reading, into_reading, bare_command, is_in_range, with_number, with_words, is_whole, into_command}
 use Rattle.cli_words.specs.Reading.{read_by, read_long_form}
@@ -176,7 +176,7 @@ into_command-is r c e = by_whole (is_whole r) refl e where
   by_whole : (b : Bool) → is_whole r ≡ b → cond b (Some r.command) None ≡ Some c → r ≡ into_reading c
   by_whole true whole found =
       let least = nat_le (row r.command.word).least (length r.command.names) in
-      let outer = and_parts (is_none r.awaited && least) (not (r.command.options.reports && is_some r.command.options.cycle)) whole in
+      let outer = and_parts (is_none r.awaited && least) (not (has_conflict r.command.options)) whole in
       let inner = and_parts (is_none r.awaited) least outer.0 in
       let none : r.awaited ≡ None = none-awaited r.awaited inner.0 in
       let same : r.command ≡ c = cc in

@@ -1,5 +1,5 @@
 -- A command with its names and options.
-use Rattle.std.specs.Prelude.{ℕ, List, [], get_or, Bool, true, Some, is_some}
+use Rattle.std.specs.Prelude.{ℕ, List, [], get_or, Bool, true, ◌&&◌, ◌||◌, Some, is_some}
 use Rattle.std.specs.Prelude.{unwrap_or, if◌then◌else◌}
 use Rattle.std.specs.Option.{option_map_or}
 use Rattle.cli_words.specs.declared.table.CommandWord.{CommandWord}
@@ -7,7 +7,7 @@ use Rattle.cli_words.specs.declared.table.NameKind.{NameKind}
 use Rattle.cli_words.specs.declared.table.NameKind.TheVariants.{File}
 use Rattle.cli_words.specs.declared.table.OptionWord.{OptionWord}
 use Rattle.cli_words.specs.declared.table.OptionWord.TheVariants.{Workers, Seed, Cycle}
-use Rattle.cli_words.specs.declared.table.OptionWord.TheVariants.{Reports, Dissent, Strict}
+use Rattle.cli_words.specs.declared.table.OptionWord.TheVariants.{Reports, Dissent, Strict, Json}
 use Rattle.cli_words.specs.declared.options.Options.{Options}
 use Rattle.record_text.specs.declared.show_part.ShowPart.{ShowPart}
 use Rattle.record_text.specs.declared.show_part.ShowPart.TheVariants as parts
@@ -48,6 +48,7 @@ is_given Cycle options = is_some options.cycle
 is_given Reports options = options.reports
 is_given Dissent options = options.dissent
 is_given Strict options = options.strict
+is_given Json options = options.json
 
 -- sets an option, to its value if it takes one
 abbrev pub with_given : OptionWord → ℕ → Options → Options
@@ -57,6 +58,11 @@ with_given Cycle n options = record options { cycle = Some n }
 with_given Reports n options = record options { reports = true }
 with_given Dissent n options = record options { dissent = true }
 with_given Strict n options = record options { strict = true }
+with_given Json n options = record options { json = true }
+
+-- `--reports` is given with `--cycle` or `--json`, which it excludes
+abbrev pub has_conflict : Options → Bool
+has_conflict options = options.reports && (is_some options.cycle || options.json)
 
 -- the part of a record that is printed
 abbrev pub part_of : Options → ShowPart

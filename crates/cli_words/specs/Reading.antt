@@ -12,6 +12,7 @@ use Rattle.cli_words.specs.Number.{number_of}
 use Rattle.cli_words.specs.Names.{is_name_of}
 use Rattle.cli_words.specs.Table.{row, command_word, option_row, option_in}
 use Rattle.cli_words.specs.Command.{CommandValue, command_value, is_given, with_given}
+use Rattle.cli_words.specs.Command.{has_conflict}
 
 -- what the arguments gave so far, and the option that awaits its value
 pub record Reading : Type 0 where
@@ -67,12 +68,11 @@ unfoldable pub with_words : List (List ℕ) → Reading → Option Reading
 with_words [] r = Some r
 with_words (word ∷ rest) r = option_and_then (with_words rest) (with_word word r)
 
--- no option awaits its value, there are enough names, and `--reports` and `--cycle` aren't given
--- together
+-- no option awaits its value, there are enough names, and no option excludes another
 abbrev pub is_whole : Reading → Bool
 is_whole r =
     (is_none r.awaited && nat_le (row r.command.word).least (length r.command.names))
-    && not (r.command.options.reports && is_some r.command.options.cycle)
+    && not (has_conflict r.command.options)
 
 abbrev pub into_command : Reading → Option CommandValue
 into_command r = if is_whole r then Some r.command else None

@@ -8,7 +8,7 @@ use Rattle.cli_words.specs.declared.table.NameKind.{NameKind}
 use Rattle.cli_words.specs.declared.table.NameKind.TheVariants.{File, Number, Command}
 use Rattle.cli_words.specs.declared.table.OptionWord.{OptionWord}
 use Rattle.cli_words.specs.declared.table.OptionWord.TheVariants.{Workers, Seed, Cycle}
-use Rattle.cli_words.specs.declared.table.OptionWord.TheVariants.{Reports, Dissent, Strict}
+use Rattle.cli_words.specs.declared.table.OptionWord.TheVariants.{Reports, Dissent, Strict, Json}
 use Rattle.cli_words.specs.declared.table.OptionSet.{OptionSet}
 use Rattle.cli_words.specs.declared.table.CommandRow as code
 use Rattle.cli_words.specs.declared.table.OptionRow as option
@@ -48,7 +48,8 @@ row command.Record = row_of (codes "record") File 2 2
 row command.Replay = row_of (codes "replay") File 1 1 (record NO_OPTIONS { workers = true })
 row command.Check = row_of (codes "check") File 1 1 (record NO_OPTIONS { workers = true })
 row command.Compare = row_of (codes "compare") File 2 8 NO_OPTIONS
-row command.Show = row_of (codes "show") File 1 1 (record NO_OPTIONS { cycle = true; reports = true })
+row command.Show = row_of (codes "show") File 1 1
+    (record NO_OPTIONS { cycle = true; reports = true; json = true })
 row command.Needs = row_of (codes "needs") File 1 1 (record NO_OPTIONS { strict = true })
 row command.Sim = row_of (codes "sim") Number 1 1 (record NO_OPTIONS { workers = true })
 row command.Salvage = row_of (codes "salvage") File 1 1 (record NO_OPTIONS { reports = true })
@@ -79,6 +80,7 @@ option_row Cycle = record { word = codes "--cycle"; range = Some (1, 1000000) }
 option_row Reports = record { word = codes "--reports"; range = None }
 option_row Dissent = record { word = codes "--dissent"; range = None }
 option_row Strict = record { word = codes "--strict"; range = None }
+option_row Json = record { word = codes "--json"; range = None }
 
 abbrev pub is_among : OptionSet → OptionWord → Bool
 is_among set Workers = set.workers
@@ -87,6 +89,7 @@ is_among set Cycle = set.cycle
 is_among set Reports = set.reports
 is_among set Dissent = set.dissent
 is_among set Strict = set.strict
+is_among set Json = set.json
 
 -- the option that an argument names
 abbrev pub option_word : List ℕ → Option OptionWord

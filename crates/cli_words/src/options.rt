@@ -1,7 +1,7 @@
 //! `Options`, the options of a command with their values.
 ghost use Rattle.std.specs.Prelude.{◌≡◌, true, is_none};
 ghost use Rattle.cli_words.specs.Table.{option_row};
-ghost use Rattle.cli_words.specs.Command.{is_given, with_given, part_of};
+ghost use Rattle.cli_words.specs.Command.{is_given, with_given, has_conflict, part_of};
 ghost use Rattle.cli_words.specs.Reading.{is_in_range};
 
 use crate::table::OptionWord;
@@ -18,6 +18,7 @@ pub struct Options {
     pub reports: bool,
     pub dissent: bool,
     pub strict: bool,
+    pub json: bool,
 }
 
 /// No option is given.
@@ -28,6 +29,7 @@ pub const NOTHING_GIVEN: Options = Options {
     reports: false,
     dissent: false,
     strict: false,
+    json: false,
 };
 
 impl Options {
@@ -42,6 +44,7 @@ impl Options {
             OptionWord::Reports => self.reports,
             OptionWord::Dissent => self.dissent,
             OptionWord::Strict => self.strict,
+            OptionWord::Json => self.json,
         }
     }
 
@@ -57,6 +60,7 @@ impl Options {
             OptionWord::Reports => self.reports = true,
             OptionWord::Dissent => self.dissent = true,
             OptionWord::Strict => self.strict = true,
+            OptionWord::Json => self.json = true,
         }
         self
     }
@@ -70,9 +74,17 @@ impl Options {
             OptionWord::Reports => self.reports = true,
             OptionWord::Dissent => self.dissent = true,
             OptionWord::Strict => self.strict = true,
+            OptionWord::Json => self.json = true,
             _ => {}
         }
         self
+    }
+
+    /// Whether an option is given that another one excludes.
+    pub(crate) fn has_conflict(&self) -> bool
+        ensures { result ≡ has_conflict self.now }
+    {
+        self.reports && (self.cycle.is_some() || self.json)
     }
 
     /// The part of a record that `show` prints.

@@ -134,7 +134,7 @@ impl<'a> Reading<'a> {
     {
         let command = &self.command;
         let least = command.word.row().least;
-        let apart = !(command.options.reports && command.options.cycle.is_some());
+        let apart = !command.options.has_conflict();
         self.awaited.is_none() && least <= command.names.count() && apart
     }
 

@@ -52,16 +52,18 @@ pub enum OptionWord {
     Reports,
     Dissent,
     Strict,
+    Json,
 }
 
 /// All options.
-pub const OPTIONS: [OptionWord; 6] = [
+pub const OPTIONS: [OptionWord; 7] = [
     OptionWord::Workers,
     OptionWord::Seed,
     OptionWord::Cycle,
     OptionWord::Reports,
     OptionWord::Dissent,
     OptionWord::Strict,
+    OptionWord::Json,
 ];
 
 /// The kind of a command's names.
@@ -84,6 +86,7 @@ pub struct OptionSet {
     pub reports: bool,
     pub dissent: bool,
     pub strict: bool,
+    pub json: bool,
 }
 
 /// No option.
@@ -94,6 +97,7 @@ pub const NO_OPTIONS: OptionSet = OptionSet {
     reports: false,
     dissent: false,
     strict: false,
+    json: false,
 };
 
 impl OptionSet {
@@ -108,6 +112,7 @@ impl OptionSet {
             OptionWord::Reports => self.reports,
             OptionWord::Dissent => self.dissent,
             OptionWord::Strict => self.strict,
+            OptionWord::Json => self.json,
         }
     }
 
@@ -168,6 +173,7 @@ const REPORTS: OptionSet = OptionSet {
 
 const PARTS: OptionSet = OptionSet {
     cycle: true,
+    json: true,
     ..REPORTS
 };
 
@@ -239,6 +245,7 @@ impl OptionWord {
             OptionWord::Reports => ("--reports", None),
             OptionWord::Dissent => ("--dissent", None),
             OptionWord::Strict => ("--strict", None),
+            OptionWord::Json => ("--json", None),
         };
         OptionRow { word, range }
     }

@@ -8,7 +8,8 @@ det: records runs of the AUTOSAR deterministic client, byte for byte
   det record MANIFEST STIM       the record of a manifest's job
       [--seed N] [--workers W] [--strict]
   det show RECORD                a record as text, and reports of its runs
-      [--reports | --cycle C]    the reports alone, or one cycle alone
+      [--cycle C] [--json]       one cycle alone; as JSON, one value a line
+      [--reports]                or the reports alone
   det replay RECORD              the record of its inputs, run again
       [--workers W]
   det check RECORD               the first place where a record is not what its

@@ -50,7 +50,7 @@ Exit statuses:
 
 /// The page of `show`.
 pub const SHOW: &str = "\
-det show RECORD [--reports | --cycle C]
+det show RECORD [--reports | [--cycle C] [--json]]
 
 Prints a record as text, a line for each thing that it holds.
 
@@ -58,12 +58,19 @@ Prints a record as text, a line for each thing that it holds.
   --reports   prints the reports alone
   --cycle C   prints the lines of cycle C alone, and no reports; C is 1 to
               1,000,000, and nothing is printed where the record has fewer
+  --json      prints one JSON value a line in place of text; it goes with
+              `--cycle` and not with `--reports`
 
 Standard output takes the lines of the header and of each frame in the record's
 order, and behind them three reports: how many runs were finished and refused,
 the greatest time between two runs that follow each other, and the first run
 that was refused. Where the record has a fault, the lines of all that is whole
 before it are printed, and no reports. The whole record is read in any case.
+
+With `--json` the header, each frame and the reports are a line each, in the
+same order. A line is an object with one member: `header`, `register`,
+`discover`, `init`, `run`, `terminate` or `reports`. Bytes are hex digits, and
+numbers beyond 2^53 are strings.
 
 Exit statuses:
   0  done                      6  read fault

@@ -19,6 +19,13 @@ fn is_name_of(kind: NameKind, word: &str) -> bool {
         }
 }
 
+/// The option among these arguments that `--reports` excludes, and `--cycle` if there are both.
+fn excluded_by_reports(words: &[String]) -> &'static str {
+    // No name and no value looks like an option.
+    let has_cycle = words.iter().any(|word| word.as_str() == "--cycle");
+    if has_cycle { "--cycle" } else { "--json" }
+}
+
 /// Why the arguments from the second one on don't complete the command of the first one.
 fn fault_after(row: CommandRow, words: &[String]) -> WordsFault<'_> {
     let mut names = 0;
@@ -48,7 +55,7 @@ fn fault_after(row: CommandRow, words: &[String]) -> WordsFault<'_> {
     match awaited {
         Some((option, _)) => WordsFault::MissingAfter("a value", option),
         None if names < row.least => WordsFault::MissingAfter("a name", row.word),
-        None => WordsFault::Both("--reports", "--cycle"),
+        None => WordsFault::Both("--reports", excluded_by_reports(words)),
     }
 }
 
