@@ -8,6 +8,8 @@ use Rattle.record_grammar.specs.declared.record_fault.RecordFault.{RecordFault}
 use Rattle.probes.specs.Reports.{AudienceState}
 use Rattle.record_text.specs.declared.show_part.ShowPart.{ShowPart}
 use Rattle.record_text.specs.declared.show_part.ShowPart.TheVariants.{All, Cycle}
+use Rattle.cmd_records.specs.declared.record_show.show_form.Notation.TheVariants.{Lines}
+use Rattle.cmd_records.specs.declared.record_show.show_form.ShowForm.{ShowForm}
 use Rattle.cmd_records.specs.declared.record_show.shown.Shown.{Shown}
 use Rattle.cmd_records.specs.record_show.Text.{text_of}
 use Rattle.copies.specs.declared.verdict.BadCopy.{BadCopy}
@@ -62,9 +64,13 @@ nobody = record { seeing = []; left = [] }
 abbrev pub part_of : ℕ → ShowPart
 part_of cycle = if cycle == 0 then All else Cycle cycle
 
+-- the text of that part in lines
+abbrev pub form_of : ℕ → ShowForm
+form_of cycle = record { part = part_of cycle; notation = Lines }
+
 -- what a result says of a record, and of the text that was printed
-abbrev pub IsPrinted : Result Shown (Stopped RecordFault) → ShowPart → List ℕ → List ℕ → Type 0
-IsPrinted (Ok shown) part bytes out = (fault_in bytes ≡ None) × (out ≡ text_of part nobody bytes)
-IsPrinted (Err (Refused fault)) part bytes out =
-    (fault_in bytes ≡ Some fault) × (out ≡ text_of part nobody bytes)
-IsPrinted (Err (Failed failure)) part bytes out = Unit {0}
+abbrev pub IsPrinted : Result Shown (Stopped RecordFault) → ShowForm → List ℕ → List ℕ → Type 0
+IsPrinted (Ok shown) form bytes out = (fault_in bytes ≡ None) × (out ≡ text_of form nobody bytes)
+IsPrinted (Err (Refused fault)) form bytes out =
+    (fault_in bytes ≡ Some fault) × (out ≡ text_of form nobody bytes)
+IsPrinted (Err (Failed failure)) form bytes out = Unit {0}

@@ -11,7 +11,7 @@ ghost use Rattle.copies.specs.verdict_text.Verdicts.{verdict_line};
 ghost use Rattle.page.specs.declared.cell.Part.TheVariants.{Element, Output};
 ghost use Rattle.page.specs.Shelves.{cut};
 ghost use Rattle.page.specs.Answers.{verdict_number, IsBadCount, fault_of, IsFaultAnswer};
-ghost use Rattle.page.specs.Answers.{nobody, part_of};
+ghost use Rattle.page.specs.Answers.{nobody, form_of};
 ghost use Rattle.page.specs.Walks.{runs_of};
 ghost use Rattle.page.specs.Rows.{laid, rows_of};
 ghost use Rattle.page.specs.Cells.{cells_of};
@@ -20,7 +20,7 @@ ghost use Rattle.page.specs.Differences.{differences_of};
 use crate::cell::{PageCell, Part, put_cells};
 use crate::copy_comparison::compare_copies;
 use crate::lent_bytes::give_bytes;
-use crate::record_print::{part_of, print_record};
+use crate::record_print::{form_of, print_record};
 use crate::run_difference::{PageDifference, put_differences};
 use crate::run_rows::{PageRun, put_runs};
 use copies::Verdict;
@@ -141,19 +141,19 @@ pub extern "C" fn page_text(
     fault: &mut PageFault,
 ) -> u8
     ensures whole { result ≡ 0 → (fault_in bytes.now ≡ None)
-        × (written.new ≡ length (text_of (part_of cycle) nobody bytes.now))
-        × (out.new ≡ text_of (part_of cycle) nobody bytes.now
-        ++ drop (length (text_of (part_of cycle) nobody bytes.now)) out.old) }
+        × (written.new ≡ length (text_of (form_of cycle) nobody bytes.now))
+        × (out.new ≡ text_of (form_of cycle) nobody bytes.now
+        ++ drop (length (text_of (form_of cycle) nobody bytes.now)) out.old) }
     ensures bad { result ≡ 2 → (found : RecordFault) × (fault_in bytes.now ≡ Some found)
         × (fault.new ≡ fault_of 0 found)
-        × (written.new ≡ length (text_of (part_of cycle) nobody bytes.now))
-        × (out.new ≡ text_of (part_of cycle) nobody bytes.now
-        ++ drop (length (text_of (part_of cycle) nobody bytes.now)) out.old) }
+        × (written.new ≡ length (text_of (form_of cycle) nobody bytes.now))
+        × (out.new ≡ text_of (form_of cycle) nobody bytes.now
+        ++ drop (length (text_of (form_of cycle) nobody bytes.now)) out.old) }
 {
     let Ok(mut sink) = MemSink::new(alloc, out.len(), usize::MAX, FailList::new(alloc)) else {
         return NO_ROOM;
     };
-    match print_record(alloc, bytes, part_of(cycle), &mut sink) {
+    match print_record(alloc, bytes, form_of(cycle), &mut sink) {
         Ok(_) => {
             if !give_bytes(sink.bytes(), out, written) {
                 return NO_ROOM;
