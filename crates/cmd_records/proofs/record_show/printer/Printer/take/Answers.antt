@@ -10,8 +10,8 @@ use Rattle.record_reader.proofs.lemmas.item_reader.Passing.{passed-on}
 use Rattle.cmd_records.specs.declared.record_show.show_form.ShowForm.{ShowForm}
 use Rattle.record_reader.specs.InItems.{run_in}
 use Rattle.cmd_records.specs.record_show.PrintedItems.{showing, Watched}
-use Rattle.cmd_records.proofs.lemmas.record_show.Taken.{noted-by, same-but-lines, same-but-presenter, same-then, taken, unnoted, unwritten}
-use Rattle.cmd_records.proofs.lemmas.record_show.Taken.{unshown}
+use Rattle.cmd_records.proofs.lemmas.record_show.Taken.{IsSame, noted-by, same-but-lines, same-but-presenter, same-then, taken, unnoted}
+use Rattle.cmd_records.proofs.lemmas.record_show.Taken.{unwritten, unshown}
 use Rattle.cmd_records.proofs.record_show.printer.Printer.take.Goals as goal
 
 pub returns-in_err-note_layout-clause-takes : goal.returns-in_err-note_layout-clause-takes
@@ -52,8 +52,9 @@ returns-clause-takes g c first given item shown next =
     let now = seen (λ b. (goal.Probe-dyn g (b.vtable, b.value)).life b.value) c.args.audience.now in
     let last = seen (λ b. (goal.Probe-dyn g (b.vtable, b.value)).life b.value) c.present_item.new.audience in
     let noted = noted-by c.count.ensures (c.in_ok-note_layout.ensures.layout item next.spelling) c.note_layout.ensures.same in
-    let same = same-then (same-but-lines c.print_item.ensures.same) (same-but-presenter c.present_item.ensures.same) in
+    let printed : IsSame c.note_layout.new.self c.print_item.new.self = same-but-lines c.print_item.ensures.same in
+    let same = same-then printed (same-but-presenter c.present_item.ensures.same) in
     taken c.args.self.now.form first now given item c.args.view c.args.bytes.now c.args.self.now c.note_layout.new.self
     c.present_item.new.self shown next noted same tt tt last _ (c.in_ok-print_item.ensures.wrote item next.spelling)
-    (subst (λ (f : ShowForm). Watched f.part now last (run_in item)) ((same-but-lines c.print_item.ensures.same).form ∙ noted.form)
+    (subst (λ (f : ShowForm). Watched f.part now last (run_in item)) (printed.form ∙ noted.form)
     (c.in_ok-present_item.ensures.shown item next.spelling))
