@@ -1,1 +1,4 @@
+mod Fields
+mod Looping
+mod Reports
 mod Viewed

@@ -1,6 +1,6 @@
 -- The numbers in an element of a built-in job: big-endian, one behind another, as the jobs put them.
 use Rattle.std.specs.Prelude.{ℕ, List, [], ◌++◌, length, drop, take, nat_eq, nat_le, codes}
-use Rattle.std.specs.Prelude.{Option, Some, None, decimal, if◌then◌else◌}
+use Rattle.std.specs.Prelude.{Bool, false, Option, Some, None, decimal, if◌then◌else◌}
 use Rattle.std.specs.Int.{w16, w32, w64, from_be_bytes, cast_signed}
 use Rattle.det_values.specs.declared.job_kind.JobKind.{JobKind}
 use Rattle.det_values.specs.declared.job_kind.JobKind.TheVariants.{Bank, Cloud, Guard}
@@ -23,12 +23,12 @@ layout_by None events = Unknown
 abbrev pub layout_of : ProfileValue → ElementLayout
 layout_of profile = layout_by (kind_of_number profile.job) (length profile.events)
 
-abbrev pub length_of : ElementLayout → ℕ
-length_of Unknown = 0
-length_of Level = 8
-length_of Channel = 10
-length_of Particle = 20
-length_of Guarded = 14
+abbrev pub length_of : ElementLayout → Option ℕ
+length_of Unknown = None
+length_of Level = Some 8
+length_of Channel = Some 10
+length_of Particle = Some 20
+length_of Guarded = Some 14
 
 -- the number in the two bytes from a place on, in the four, and in the eight, which have a sign
 abbrev pub u16_text : ℕ → List ℕ → List ℕ
@@ -53,9 +53,12 @@ numbers_text Guarded bytes =
     codes "\"number\":" ++ (u32_text 0 bytes ++ (codes ",\"value\":" ++ (i64_text 4 bytes
     ++ (codes ",\"streak\":" ++ u16_text 12 bytes))))
 
+abbrev pub has_length : Option ℕ → List ℕ → Bool
+has_length None bytes = false
+has_length (Some n) bytes = nat_eq (length bytes) n
+
 -- nothing, if the job isn't a built-in one or the element has another length than its elements
 abbrev pub fields_text : ElementLayout → List ℕ → List ℕ
-fields_text Unknown bytes = []
 fields_text layout bytes =
-    if nat_eq (length bytes) (length_of layout)
+    if has_length (length_of layout) bytes
     then codes ",\"fields\":{" ++ (numbers_text layout bytes ++ codes "}") else []

@@ -42,16 +42,16 @@ impl ElementLayout {
         )
     }
 
-    /// The length in bytes of an element with these numbers.
-    pub(crate) fn length(self) -> usize
+    /// The length in bytes of an element with these numbers, or None if none are known.
+    pub(crate) fn length(self) -> Option<usize>
         ensures { result ≡ length_of self }
     {
         match self {
-            ElementLayout::Unknown => 0,
-            ElementLayout::Level => 8,
-            ElementLayout::Channel => 10,
-            ElementLayout::Particle => 20,
-            ElementLayout::Guarded => 14,
+            ElementLayout::Unknown => None,
+            ElementLayout::Level => Some(8),
+            ElementLayout::Channel => Some(10),
+            ElementLayout::Particle => Some(20),
+            ElementLayout::Guarded => Some(14),
         }
     }
 }

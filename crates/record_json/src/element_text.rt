@@ -1,6 +1,8 @@
 //! The numbers in an element of a built-in job.
-ghost use Rattle.std.specs.Prelude.{◌≡◌, ◌≢◌, ◌≤◌, ◌+◌, ◌++◌, OnOk, drop, length, take};
+ghost use Rattle.std.specs.Prelude.{◌≡◌, ◌≤◌, ◌+◌, ◌++◌, OnOk, Some, drop, length, take};
 ghost use Rattle.std.specs.Int.{w16, w32, w64, from_be_bytes, cast_signed};
+ghost use Rattle.record_json.specs.declared.element_layout.ElementLayout.TheVariants.{Particle};
+ghost use Rattle.record_json.specs.declared.element_layout.ElementLayout.TheVariants.{Guarded};
 ghost use Rattle.record_json.specs.Elements.{u16_text, u32_text, i64_text, numbers_text};
 ghost use Rattle.record_json.specs.Elements.{length_of, fields_text};
 
@@ -60,9 +62,35 @@ fn put_i64(out: &mut Vec<u8>, at: usize, bytes: &[u8]) -> Result<(), AllocError>
     put_exact_signed(out, i64_at(bytes, at))
 }
 
+fn put_particle(out: &mut Vec<u8>, bytes: &[u8]) -> Result<(), AllocError>
+    requires { length bytes.now ≡ 20 }
+    ensures { OnOk result (out.new.items ≡ out.old.items ++ numbers_text Particle bytes.now) }
+{
+    put_str(out, "\"number\":")?;
+    put_u32(out, 0, bytes)?;
+    put_str(out, ",\"x\":")?;
+    put_i64(out, 4, bytes)?;
+    put_str(out, ",\"y\":")?;
+    put_i64(out, 12, bytes)?;
+    Ok(())
+}
+
+fn put_guarded(out: &mut Vec<u8>, bytes: &[u8]) -> Result<(), AllocError>
+    requires { length bytes.now ≡ 14 }
+    ensures { OnOk result (out.new.items ≡ out.old.items ++ numbers_text Guarded bytes.now) }
+{
+    put_str(out, "\"number\":")?;
+    put_u32(out, 0, bytes)?;
+    put_str(out, ",\"value\":")?;
+    put_i64(out, 4, bytes)?;
+    put_str(out, ",\"streak\":")?;
+    put_u16(out, 12, bytes)?;
+    Ok(())
+}
+
 /// Appends the members with the numbers of an element.
 fn put_numbers(out: &mut Vec<u8>, layout: ElementLayout, bytes: &[u8]) -> Result<(), AllocError>
-    requires { length bytes.now ≡ length_of layout }
+    requires { length_of layout ≡ Some (length bytes.now) }
     ensures { OnOk result (out.new.items ≡ out.old.items ++ numbers_text layout bytes.now) }
 {
     match layout {
@@ -77,22 +105,8 @@ fn put_numbers(out: &mut Vec<u8>, layout: ElementLayout, bytes: &[u8]) -> Result
             put_str(out, ",\"level\":")?;
             put_i64(out, 2, bytes)
         }
-        ElementLayout::Particle => {
-            put_str(out, "\"number\":")?;
-            put_u32(out, 0, bytes)?;
-            put_str(out, ",\"x\":")?;
-            put_i64(out, 4, bytes)?;
-            put_str(out, ",\"y\":")?;
-            put_i64(out, 12, bytes)
-        }
-        ElementLayout::Guarded => {
-            put_str(out, "\"number\":")?;
-            put_u32(out, 0, bytes)?;
-            put_str(out, ",\"value\":")?;
-            put_i64(out, 4, bytes)?;
-            put_str(out, ",\"streak\":")?;
-            put_u16(out, 12, bytes)
-        }
+        ElementLayout::Particle => put_particle(out, bytes),
+        ElementLayout::Guarded => put_guarded(out, bytes),
     }
 }
 
@@ -104,10 +118,14 @@ pub(crate) fn put_fields(
 ) -> Result<(), AllocError>
     ensures { OnOk result (out.new.items ≡ out.old.items ++ fields_text layout bytes.now) }
 {
-    if layout == ElementLayout::Unknown || bytes.len() != layout.length() {
+    let Some(length) = layout.length() else {
+        return Ok(());
+    };
+    if bytes.len() != length {
         return Ok(());
     }
     put_str(out, ",\"fields\":{")?;
     put_numbers(out, layout, bytes)?;
-    put_str(out, "}")
+    put_str(out, "}")?;
+    Ok(())
 }

@@ -54,7 +54,8 @@ fn put_element(
     put_bytes(out, bytes)?;
     put_draws(out, format, draws)?;
     put_fields(out, layout, bytes)?;
-    put_str(out, "}")
+    put_str(out, "}")?;
+    Ok(())
 }
 
 fn put_more_elements(
@@ -112,7 +113,8 @@ fn put_sample(out: &mut Vec<u8>, sample: &Sample) -> Result<(), AllocError>
     put_number(out, event as u64)?;
     put_str(out, ",\"value\":")?;
     put_signed(out, value)?;
-    put_str(out, "}")
+    put_str(out, "}")?;
+    Ok(())
 }
 
 fn put_more_samples(out: &mut Vec<u8>, samples: SampleWalk<'_>) -> Result<(), AllocError>
@@ -156,7 +158,8 @@ fn put_input(
     put_time(out, time)?;
     put_str(out, ",\"samples\":[")?;
     put_samples(out, samples)?;
-    put_str(out, "]")
+    put_str(out, "]")?;
+    Ok(())
 }
 
 fn put_refused(out: &mut Vec<u8>, refused: &RefusedAt) -> Result<(), AllocError>
@@ -177,7 +180,8 @@ fn put_refused(out: &mut Vec<u8>, refused: &RefusedAt) -> Result<(), AllocError>
     put_number(out, element as u64)?;
     put_str(out, ",\"code\":")?;
     put_number(out, code as u64)?;
-    put_str(out, "}}}\n")
+    put_str(out, "}}}\n")?;
+    Ok(())
 }
 
 fn put_finished(
@@ -194,7 +198,8 @@ fn put_finished(
     put_elements(out, format, layout, elements)?;
     put_str(out, "],\"output\":")?;
     put_bytes(out, output)?;
-    put_str(out, "}}}\n")
+    put_str(out, "}}}\n")?;
+    Ok(())
 }
 
 fn put_outcome(

@@ -1,5 +1,5 @@
 //! The line of a header.
-ghost use Rattle.std.specs.Prelude.{◌≡◌, ◌++◌, OnOk, codes};
+ghost use Rattle.std.specs.Prelude.{◌≡◌, ◌++◌, OnOk, codes, drop};
 ghost use Rattle.std.specs.List.{flat_map};
 ghost use Rattle.record_json.specs.Texts.{signed_text, listed};
 ghost use Rattle.record_json.specs.Records.{format_text, policy_text, event_text};
@@ -51,20 +51,22 @@ fn put_event(out: &mut Vec<u8>, format: Format, event: &EventSpec) -> Result<(),
     put_str(out, "\",\"capacity\":")?;
     put_number(out, event.capacity as u64)?;
     put_policy(out, format, event.policy)?;
-    put_str(out, "}")
+    put_str(out, "}")?;
+    Ok(())
 }
 
+/// Appends all events but the first, each after a comma.
 fn put_more_events(
     out: &mut Vec<u8>,
     format: Format,
     events: &[EventSpec],
 ) -> Result<(), AllocError>
     ensures { OnOk result (out.new.items
-        ≡ out.old.items ++ flat_map (λ e. codes "," ++ event_text format e) events.now) }
+        ≡ out.old.items ++ flat_map (λ e. codes "," ++ event_text format e) (drop 1 events.now)) }
 {
-    for event in events {
+    for i in 1..events.len() {
         put_str(out, ",")?;
-        put_event(out, format, event)?;
+        put_event(out, format, &events[i])?;
     }
     Ok(())
 }
@@ -73,13 +75,12 @@ fn put_events(out: &mut Vec<u8>, format: Format, events: &[EventSpec]) -> Result
     ensures { OnOk result
         (out.new.items ≡ out.old.items ++ listed (event_text format) events.now) }
 {
-    match events {
-        [] => Ok(()),
-        [first, rest @ ..] => {
-            put_event(out, format, first)?;
-            put_more_events(out, format, rest)
-        }
+    if events.is_empty() {
+        return Ok(());
     }
+    put_event(out, format, &events[0])?;
+    put_more_events(out, format, events)?;
+    Ok(())
 }
 
 fn put_format(out: &mut Vec<u8>, format: Format) -> Result<(), AllocError>
@@ -102,7 +103,8 @@ fn put_front(out: &mut Vec<u8>, profile: &Profile) -> Result<(), AllocError>
     put_str(out, ",\"seed\":")?;
     put_exact(out, profile.seed)?;
     put_str(out, ",\"cycle_time\":")?;
-    put_exact(out, profile.cycle_time)
+    put_exact(out, profile.cycle_time)?;
+    Ok(())
 }
 
 /// Appends the line of a header. It has the format, the job's number, the seed, the cycle time in
@@ -115,5 +117,6 @@ pub fn put_json_header(out: &mut Vec<u8>, profile: &Profile) -> Result<(), Alloc
     put_params(out, profile.params.as_slice())?;
     put_str(out, "],\"events\":[")?;
     put_events(out, profile.format, profile.events.as_slice())?;
-    put_str(out, "]}}\n")
+    put_str(out, "]}}\n")?;
+    Ok(())
 }

@@ -46,16 +46,10 @@ fn put_byte(out: &mut Vec<u8>, byte: u8, rest: &[u8]) -> Result<(), AllocError>
 fn put_inner(out: &mut Vec<u8>, reports: &[u8]) -> Result<(), AllocError>
     ensures { OnOk result (out.new.items ≡ out.old.items ++ inner_text reports.now) }
 {
-    let mut left = reports;
-    'bytes: loop {
-        match left {
-            [] => return Ok(()),
-            [byte, rest @ ..] => {
-                put_byte(out, *byte, rest)?;
-                left = rest;
-            }
-        }
+    for i in 0..reports.len() {
+        put_byte(out, reports[i], reports.split_at(i + 1).1)?;
     }
+    Ok(())
 }
 
 fn put_strings(out: &mut Vec<u8>, reports: &[u8]) -> Result<(), AllocError>
@@ -78,5 +72,6 @@ pub fn put_json_reports(out: &mut Vec<u8>, reports: &[u8]) -> Result<(), AllocEr
 {
     put_str(out, "{\"reports\":[")?;
     put_strings(out, reports)?;
-    put_str(out, "]}\n")
+    put_str(out, "]}\n")?;
+    Ok(())
 }
