@@ -8,7 +8,10 @@ import signal
 import subprocess
 import time
 from pathlib import Path
-from typing import Any
+from typing import Any, Callable
+
+# The seconds that a process has to end by itself.
+MOMENT = 5
 
 
 def run_within(words: list[str], limit: float, **how: Any) -> "subprocess.CompletedProcess[Any]":
@@ -65,13 +68,34 @@ def processes_with(mark: str) -> list[int]:
     return found
 
 
+def processes_in(folder: Path) -> list[int]:
+    """The processes that work in this folder."""
+    found = []
+    for process in Path("/proc").iterdir():
+        with contextlib.suppress(OSError):
+            if process.name.isdigit() and os.readlink(process / "cwd") == os.path.realpath(folder):
+                found.append(int(process.name))
+    return found
+
+
+def comes_true(is_so: Callable[[], bool], within: float) -> bool:
+    """Waits until something is so, for some seconds. Returns whether it is."""
+    until = time.monotonic() + within
+    while not is_so():
+        if time.monotonic() > until:
+            return False
+        time.sleep(0.05)
+    return True
+
+
 def has_child(mark: str) -> bool:
     """Whether a child with this mark runs on.
 
     What a child started itself has a moment to find its output closed.
     """
-    for _ in range(20):
-        if not processes_with(mark):
-            return False
-        time.sleep(0.1)
-    return True
+    return not comes_true(lambda: not processes_with(mark), MOMENT)
+
+
+def is_left(folder: Path) -> bool:
+    """Whether a process that works in this folder runs on, after a moment."""
+    return not comes_true(lambda: not processes_in(folder), MOMENT)

@@ -8,11 +8,11 @@ import pwd
 import shutil
 import socket
 import subprocess
-import time
 from dataclasses import dataclass
 from pathlib import Path
 from typing import Callable, Iterator
 
+from children import comes_true
 from commands import TOP, Bench, Outcome, run
 
 MANY = TOP / "examples" / "many"
@@ -99,19 +99,9 @@ class NotBegun(Exception):
     """A server doesn't begin here; the text says why."""
 
 
-def comes_true(is_so: Callable[[], bool]) -> bool:
-    """Waits until something is so. Returns whether it is."""
-    until = time.monotonic() + BEGIN
-    while not is_so():
-        if time.monotonic() > until:
-            return False
-        time.sleep(0.1)
-    return True
-
-
 def wait_until(is_so: Callable[[], bool], logs: list[Path]) -> None:
     """Waits until servers have begun."""
-    if not comes_true(is_so):
+    if not comes_true(is_so, BEGIN):
         raise NotBegun(" | ".join(log.read_text().strip().split("\n")[-1] for log in logs))
 
 
@@ -230,4 +220,4 @@ def running_hosts(bench: Bench) -> Iterator[Hosts]:
         wait_until(lambda: is_open(port), logs)
         yield Hosts({**variables, "DET_REMOTE": bench.programs.path("det")})
         # A host whose connection was closed has a moment to see it.
-        assert comes_true(lambda: not any(temporary.iterdir())), "a copy left a folder"
+        assert comes_true(lambda: not any(temporary.iterdir()), BEGIN), "a copy left a folder"

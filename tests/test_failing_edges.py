@@ -4,10 +4,10 @@ A library that is loaded before the program has one call of open, read or write 
 then on; of `det_lane` also one of posix_spawn, pipe2 or of those that wait, and one of its second
 copy. A failed open or read has to end the run with status 6 and `read fault`, a failed write with 7
 and `write fault`. In `det_lane` the first, and what children need, end it with 10 and `spawn
-fault`, and a failed copy with 9 and its status. What was written has to be the first bytes of what
-is written otherwise. A call that was interrupted has to be tried again, and reads and writes of few
-bytes may change nothing. Of a call that is made often 40 numbers are tried, or all by --all-calls.
-It needs gcc, on Linux.
+fault`, and a failed copy with 9 and its status; what only its guard needs changes nothing. What was
+written has to be the first bytes of what is written otherwise. A call that was interrupted has to
+be tried again, and reads and writes of few bytes may change nothing. Of a call that is made often
+40 numbers are tried, or all by --all-calls. It needs gcc, on Linux.
 """
 
 from __future__ import annotations
@@ -39,6 +39,8 @@ INTERRUPTED = ("open", "read", "write", "wait")
 COPY_WORD, COPY = "2", 1
 # The statuses with which a file was refused.
 REFUSED = (3, 4, 5)
+# How many of the first calls of det_lane start its guard.
+OF_GUARD = {"open": 2, "pipe": 1, "spawn": 1}
 # Commands that take longer, of which fewer numbers are tried.
 LONG = "det sim"
 
@@ -74,6 +76,16 @@ def is_good(words: str, setting: Setting, outcome: Outcome, whole: Outcome) -> b
         is_decided = setting.call in ("wait", "read") and whole.status == 9 and outcome == whole
         return is_decided or begins(outcome, 10, b"spawn fault", whole)
     return begins(outcome, 6, b"read fault", whole) or has_lost_hint(outcome, whole)
+
+
+def is_of_guard(words: str, setting: Setting, counts: dict[str, int]) -> bool:
+    """Whether the call that fails is one of a lane for its guard alone. The last two that wait are,
+    one before the guard is killed and one for its end."""
+    if not words.startswith(LANE) or setting.only or setting.call not in counts:
+        return False
+    if setting.call == "wait":
+        return setting.number > counts["wait"] - 2
+    return not setting.lasting and setting.number <= OF_GUARD.get(setting.call, 0)
 
 
 def numbers_of(count: int, most: int) -> list[int]:
@@ -137,7 +149,8 @@ def trials(bench: FailingBench, words: str, most: int, jobs: int) -> Trials:
         for setting, (outcome, counts) in zip(all_settings, ends):
             # How many reads a pipe takes isn't the same in every run.
             is_reached = counts.get(setting.call, setting.number) >= setting.number
-            is_right = is_good(words, setting if is_reached else Setting(), outcome, whole)
+            is_needed = is_reached and not is_of_guard(words, setting, counts)
+            is_right = is_good(words, setting if is_needed else Setting(), outcome, whole)
             yield f"{setting}: {outcome}", is_right
     finally:
         threads.shutdown(cancel_futures=True)

@@ -13,9 +13,9 @@ from typing import Any
 
 import pytest
 
-from children import has_child
+from children import is_left
 from clients import Client
-from commands import TOP, Bench, Case, Outcome, Word, run, without_children
+from commands import TOP, Bench, Case, Outcome, Word, without_children
 
 MANIFEST = TOP / "examples" / "guard.toml"
 STIMULUS = TOP / "examples" / "guard.stim"
@@ -263,14 +263,12 @@ STOPPED = [
 
 
 class Lane(Bench):
-    """A bench whose children have a mark among their variables."""
+    """A bench in whose folder children are started."""
 
-    def run_marked(self, *words: Word, **how: Any) -> Outcome:
-        """Runs det_lane. No child may be left."""
-        environment = dict(self.programs.environment(), LANE_TEST=str(self.folder))
-        command = [self.programs.path("det_lane"), *words]
-        given = run(command, self.folder, environment, **how)
-        assert not has_child(f"LANE_TEST={self.folder}"), "a child is left running"
+    def run_lane(self, *words: Word, **how: Any) -> Outcome:
+        """Runs det_lane. Neither a child nor the guard may be left."""
+        given = self.run("det_lane", *words, **how)
+        assert not is_left(self.folder), "a process is left running"
         return given
 
     def write_script(self, text: str) -> None:
@@ -283,7 +281,7 @@ class Lane(Bench):
         """Runs a case. It has to end as it says, within some seconds."""
         self.write_script(case.files["copy"].decode())
         start = time.monotonic()
-        given = self.run_marked(*case.words[1:], input=FOR_NO_CHILD)
+        given = self.run_lane(*case.words[1:], input=FOR_NO_CHILD)
         seconds = time.monotonic() - start
         assert given == case.outcome
         assert seconds <= within, f"took {seconds:.1f} seconds"
@@ -341,7 +339,7 @@ def test_large_record(lane: Lane) -> None:
 
 
 def test_missing_program(lane: Lane) -> None:
-    assert lane.run_marked("./nothing", 2, "m", "s") == SPAWN_FAULT
+    assert lane.run_lane("./nothing", 2, "m", "s") == SPAWN_FAULT
 
 
 def test_refused_starts(lane: Lane) -> None:
@@ -352,7 +350,7 @@ def test_refused_starts(lane: Lane) -> None:
         def limit_files(most: int = most) -> None:
             resource.setrlimit(resource.RLIMIT_NOFILE, (most, most))
 
-        given = lane.run_marked("yes", 3, "m", "s", preexec_fn=limit_files, limit=60)
+        given = lane.run_lane("yes", 3, "m", "s", preexec_fn=limit_files, limit=60)
         given = without_children(given)
         statuses.add(given.status)
         assert not given.out, f"with {most} files: {given}"

@@ -2,8 +2,9 @@
 //!
 //! `Spawner` is the trait of what starts children, `ProcessSpawner` starts real ones, and
 //! `MemSpawner` replays scripts in tests. `ErrorLine` makes lines of what a child writes to its
-//! standard error.
+//! standard error. `ChildGuard` ends real children if a signal ends this process.
 
+mod child_guard;
 mod child_shelf;
 mod error_line;
 mod error_pipes;

@@ -2,6 +2,7 @@
 ghost use Rattle.std.specs.Prelude.{◌≡◌, ◌<◌, ◌≤◌, length, vec_len, pos, Some, IfOk};
 ghost use Rattle.lane.specs.child_processes.Processes.{code_of};
 
+use crate::child_processes::child_guard::ChildGuard;
 use crate::child_processes::error_pipes::{ErrorPipes, WaitFault};
 use crate::child_processes::{SpawnFailed, Spawner};
 use det_io::{push_within, read_with_retries};
@@ -37,7 +38,8 @@ type Output = BufReader<ChildStdout>;
 ///   process that the child started can delay that beyond the child's own end.
 /// - `finish` kills a child unless a read met the end of its output. If the child was about to end
 ///   by itself, it has an exit status or none, depending on what comes first.
-/// - Dropping the spawner leaves the children running that weren't given to `finish`.
+/// - Dropping the spawner waits for no child. Those that weren't given to `finish` are ended by the
+///   guard, or run on if there is none.
 #[derive(Drop)]
 pub struct ProcessSpawner<R: Processes<Started = SystemProcess>> {
     rt: R,
@@ -50,6 +52,7 @@ pub struct ProcessSpawner<R: Processes<Started = SystemProcess>> {
     // The outputs of the children. A child that was given to `finish` has none.
     outputs: Vec<Option<Output>>,
     errors: ErrorPipes,
+    guard: ChildGuard,
     // For each child, whether a read met the end of its output.
     at_end: Vec<bool>,
     // For each child, whether it was given to `finish`.
@@ -82,6 +85,7 @@ impl<R: Processes<Started = SystemProcess> + Copy> ProcessSpawner<R> {
             children: Vec::new(alloc),
             outputs: Vec::new(alloc),
             errors: ErrorPipes::new(alloc, err),
+            guard: ChildGuard::new(alloc),
             at_end: Vec::new(alloc),
             finished: Vec::new(alloc),
             lost: Vec::new(alloc),
@@ -139,6 +143,7 @@ impl<R: Processes<Started = SystemProcess>> ProcessSpawner<R> {
             let _ = child.wait();
             return None;
         };
+        self.guard.add(child.id());
         self.errors.add(number, child.stderr.take());
         self.keep(child, output);
         Some(number)
@@ -169,7 +174,9 @@ impl<R: Processes<Started = SystemProcess> + Clock + Copy> Spawner for ProcessSp
     ghost sees = { λ s. process_state s };
 
     fn start(&mut self, words: &[String]) -> Result<u32, SpawnFailed> {
+        self.guard.start(&self.rt);
         let number = self.add(words).ok_or(SpawnFailed);
+        self.guard.end_if_idle();
         self.counted(number)
     }
 
@@ -213,6 +220,7 @@ impl<R: Processes<Started = SystemProcess> + Clock + Copy> Spawner for ProcessSp
         // Only now, so that a process of the child that goes on doesn't complain of it above.
         self.outputs[index] = None;
         let status = end_of_child(&mut self.children[index], is_read);
+        self.guard.remove(self.children[index].id());
         self.lost[index] = status.is_err();
         status
     }
