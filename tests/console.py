@@ -8,8 +8,8 @@ A block is fenced by ```console. A line after "$ " is a command, lines after "> 
 the lines up to the next command are what it prints, on standard output and standard error together.
 All commands of a document run in one shell, which starts at the top of the repository. Prints each
 command that printed something else, and ends with 1 where there is one. The programs of bin/ build
-where needed, and the library for a document that names it. It needs Python's standard library, bash,
-and for such a document g++.
+where needed, and the library and the page for a document that uses them. It needs Python's standard
+library, bash, and for the library g++.
 """
 
 from __future__ import annotations
@@ -22,13 +22,14 @@ import tempfile
 from dataclasses import dataclass, field
 from pathlib import Path
 
-from builds import build_library, build_programs
+from builds import build_library, build_page, build_programs
 from commands import TOP, run
 
 # The most seconds that all commands of a document may take.
 LIMIT = 600
 MARK = "--- command "
 LIBRARY = "libdeterministic_client.a"
+PAGE_TOOL = "det_page.py"
 
 
 @dataclass
@@ -93,6 +94,11 @@ def needs_library(document: Path) -> bool:
     return any(LIBRARY in it.text for it in commands_of(document))
 
 
+def needs_page(document: Path) -> bool:
+    """Whether its commands put records into the page."""
+    return any(PAGE_TOOL in it.text for it in commands_of(document))
+
+
 def departures(document: Path, programs: Path, room: Path, top: Path = TOP) -> list[str]:
     """The commands of a document that print something else than what it has. They start in a folder
     like the top of the repository."""
@@ -116,6 +122,8 @@ def main() -> int:
         programs = build_programs(room / "programs", given.programs).folder
         if needs_library(given.document):
             build_library(is_proof=False)
+        if needs_page(given.document):
+            build_page()
         texts = departures(given.document, programs, room)
     print("\n".join([*texts, f"{len(texts)} commands print something else"]))
     return 1 if texts or not commands_of(given.document) else 0

@@ -34,7 +34,7 @@ def files_of_package() -> list[str]:
     found += [f"include/det/exec/{it.name}" for it in (TOP / "include/det/exec").glob("*.h")]
     adapter = (TOP / "include/ara/exec").glob("*.h")
     found += [f"include/det/adapter/ara/exec/{it.name}" for it in adapter]
-    tools = ["bin/det_record", "bin/det_stimulus", "bin/det_view", "bin/det_page"]
+    tools = ["bin/det_record", "bin/det_stimulus", "bin/det_page"]
     return found + tools
 
 
@@ -71,7 +71,7 @@ def test_install_and_uninstall(bench: Bench, library: Path) -> None:
     assert [it for it in files_of_package() if not (root / it).is_file()] == []
     for name in NAMES:
         assert run([root / "bin" / name, "--version"], root, {}).out == version_line(name)
-    for tool in ("det_record", "det_stimulus", "det_view", "det_page"):
+    for tool in ("det_record", "det_stimulus", "det_page"):
         file = root / "share/det/tools" / f"{tool}.py"
         assert run(["python3", "-B", file, "--help"], root).status == 0, tool
     make_other(root)

@@ -25,7 +25,7 @@ VERSION = text_of("VERSION").strip()
 LIBRARY = "libdeterministic-client-dev"
 PACKAGES = ("det", LIBRARY)
 LIBDIR = "usr/lib/x86_64-linux-gnu"
-TOOLS = ("det_record", "det_stimulus", "det_view", "det_page")
+TOOLS = ("det_record", "det_stimulus", "det_page")
 # Files that each package has at least.
 FILES = {
     "det": [

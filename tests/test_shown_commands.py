@@ -9,8 +9,9 @@ from typing import Optional
 
 import pytest
 
+from builds import build_page
 from commands import TOP, Bench, excerpt
-from console import departures, needs_library
+from console import departures, needs_library, needs_page
 from cpp_bench import need
 from documents import documents, name_of
 
@@ -34,6 +35,8 @@ def test_console(document: Path, bench: Bench, request: pytest.FixtureRequest) -
     if needs_library(document):
         need("g++")
         library = request.getfixturevalue("library")
+    if needs_page(document):
+        build_page()
     link_top(bench, library)
     assert departures(document, bench.programs.folder, bench.folder, bench.folder) == []
 

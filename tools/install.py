@@ -30,8 +30,8 @@ from crate_list import is_built, listed_crates, needed_by, program_file  # noqa:
 TOP = Path(__file__).resolve().parent.parent
 PROGRAMS = ("det", "det_lane", "det_twin")
 # The tools of records and stimuli: a program each, under its own name, over the modules beside it.
-TOOLS = ("det_record", "det_stimulus", "det_view", "det_page")
-MODULES = ("tools/det_*.py", "tools/record_*.py", "tools/stimulus_*.py", "tools/view/*.py")
+TOOLS = ("det_record", "det_stimulus", "det_page")
+MODULES = ("tools/det_*.py", "tools/record_*.py", "tools/stimulus_*.py")
 DOCUMENTS = ("README.md", "CHANGELOG.md", "docs/*.md", "docs/pictures/*")
 LIBRARY = "out/lib/libdeterministic_client.a"
 PAGE = "out/page/det_page.html"

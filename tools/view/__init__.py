@@ -1,1 +1,0 @@
-"""Pages that show records of `det`."""
