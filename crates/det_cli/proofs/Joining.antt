@@ -24,7 +24,7 @@ use Rattle.cmd_records.specs.record_show.ShowEnds.{IsGone}
 use Rattle.cmd_records.specs.salvage_command.ReportEnds as salvaging
 use Rattle.det_cli.specs.Texts.{help_text}
 use Rattle.cmd_records.specs.record_show.Text.{has_reports}
-use Rattle.det_cli.specs.Promise.{Runs, Refuses}
+use Rattle.det_cli.specs.Promise.{Runs, Refuses, reports_only}
 
 -- a command by its word and its names
 pub same-command : (c : CommandValue) (word : CommandWord) (names : List (List ℕ)) → c.word ≡ word → c.names ≡ names
@@ -129,7 +129,7 @@ no-difference work answer e ends alone = let h = rw e at ends in let none = sym 
 -- runs that were reported of a record have no lines
 pub reported-runs : {old now : AudienceState} {record_bytes bytes : List ℕ} {out : SinkRun}
     → salvaging.SawFirst old now record_bytes → GrewByPrefix out.before out.after bytes
-    → showing.SawFirst parts.Reports old now record_bytes out
+    → showing.SawFirst reports_only old now record_bytes out
 reported-runs saw part = record {
   seen = saw.seen;
   first = saw.first;

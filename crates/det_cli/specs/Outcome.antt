@@ -9,7 +9,10 @@ use Rattle.cli_words.specs.declared.table.CommandWord.TheVariants.{Demo, Record,
 use Rattle.cli_words.specs.declared.table.CommandWord.TheVariants.{Replay, Check, Upgrade}
 use Rattle.cli_words.specs.declared.table.CommandWord.TheVariants.{Compare, Vote, Salvage, Chain}
 use Rattle.cli_words.specs.declared.table.CommandWord.TheVariants.{Help, Version}
+use Rattle.cli_words.specs.declared.options.Options.{Options}
 use Rattle.cli_words.specs.Command.{CommandValue, name_at, number_in, files_of, part_of}
+use Rattle.cmd_records.specs.declared.record_show.show_form.Notation.TheVariants.{Lines, Json}
+use Rattle.cmd_records.specs.declared.record_show.show_form.ShowForm.{ShowForm}
 use Rattle.cmd_records.specs.record_show.Text.{has_reports}
 use Rattle.probes.specs.Reports.{AudienceState}
 use Rattle.run_setup.specs.Setup.{setup_of}
@@ -27,6 +30,13 @@ use Rattle.cmd_run.specs.chain_command.Chain.{chain_outcome, chain_names}
 use Rattle.cmd_records.specs.salvage_command.Salvage.{salvage_outcome, salvage_reports_outcome}
 use Rattle.det_cli.specs.declared.det_usage.TheConstants.{VERSION}
 use Rattle.det_cli.specs.Texts.{help_text}
+
+-- what `show` prints of a record, and how
+abbrev pub form_of : Options → ShowForm
+form_of options = record {
+  part = part_of options;
+  notation = if options.json then Json else Lines;
+}
 
 -- The names that a command opens, if these are the bytes under each name. It opens none after a
 -- manifest that is refused.
@@ -66,7 +76,7 @@ abbrev pub outcome_by : CommandWord → CommandValue → (List ℕ → List ℕ)
 outcome_by Demo c holds audience = demo_outcome (holds (name_at 0 c))
 outcome_by Record c holds audience =
     record_outcome c.options.strict (holds (name_at 0 c)) (holds (name_at 1 c)) c.options.seed
-outcome_by Show c holds audience = show_outcome (part_of c.options) audience (holds (name_at 0 c))
+outcome_by Show c holds audience = show_outcome (form_of c.options) audience (holds (name_at 0 c))
 outcome_by Needs c holds audience = needs_outcome c.options.strict (holds (name_at 0 c))
 outcome_by Sim c holds audience = sim_outcome audience (number_in c)
 outcome_by Replay c holds audience = replay_outcome (holds (name_at 0 c))

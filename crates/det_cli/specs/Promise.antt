@@ -8,12 +8,14 @@ use Rattle.probes.specs.Reports.{AudienceState}
 use Rattle.cli_words.specs.declared.table.CommandWord.{CommandWord}
 use Rattle.cli_words.specs.declared.table.CommandWord.TheVariants.{Show, Sim, Check}
 use Rattle.cli_words.specs.declared.table.CommandWord.TheVariants.{Salvage, Vote}
-use Rattle.cli_words.specs.Command.{CommandValue, name_at, files_of, number_in, part_of}
+use Rattle.cli_words.specs.Command.{CommandValue, name_at, files_of, number_in}
 use Rattle.cli_words.specs.Reading.{command_of}
 use Rattle.record_grammar.specs.Record.{items as items_in}
 use Rattle.record_reader.specs.Salvaged.{saved_of}
 use Rattle.cmd_records.specs.record_show.Text.{lines_of}
 use Rattle.record_text.specs.declared.show_part.ShowPart.TheVariants.{Reports}
+use Rattle.cmd_records.specs.declared.record_show.show_form.Notation.TheVariants.{Lines}
+use Rattle.cmd_records.specs.declared.record_show.show_form.ShowForm.{ShowForm}
 use Rattle.cmd_records.specs.record_show.ShowEnds.{SawFirst}
 use Rattle.probes.specs.Shows.{SawRuns}
 use Rattle.cmd_records.specs.vote_command.Vote.{VoteBreaksOff}
@@ -28,20 +30,24 @@ use Rattle.cli_answers.specs.Ends.{can_end}
 use Rattle.cli_answers.specs.BreaksOff.{BreaksOff}
 use Rattle.cli_answers.specs.Outcome.{Meets, WritesLine, KnowsBytes, known_bytes}
 use Rattle.cli_answers.specs.Slots.{KeepsSlots}
-use Rattle.det_cli.specs.Outcome.{opened_by, is_showing, work_of, outcome_by}
+use Rattle.det_cli.specs.Outcome.{opened_by, form_of, is_showing, work_of, outcome_by}
 
 -- the bytes under the names that a command opens are known
 abbrev pub KnowsAllBytes : CommandValue → ShelfState → Type 0
 KnowsAllBytes c shelf = KnowsBytes shelf (opened_by c.word c (known_bytes shelf))
+
+-- no items, and so no lines of any
+abbrev pub reports_only : ShowForm
+reports_only = record { part = Reports; notation = Lines }
 
 -- What an audience has seen. With `show` these are first runs of the record, whose lines are
 -- written; with `check`, first runs of those that it checks; with `salvage --reports`, first runs
 -- of the record; with `sim`, all its runs. The other commands show none.
 abbrev pub SeenBy : CommandWord → CommandValue → (List ℕ → List ℕ) → AudienceState → AudienceState
     → SinkRun → Type 0
-SeenBy Show c holds old now out = SawFirst (part_of c.options) old now (holds (name_at 0 c)) out
+SeenBy Show c holds old now out = SawFirst (form_of c.options) old now (holds (name_at 0 c)) out
 SeenBy Salvage c holds old now out =
-    c.options.reports ≡ true → SawFirst Reports old now (holds (name_at 0 c)) out
+    c.options.reports ≡ true → SawFirst reports_only old now (holds (name_at 0 c)) out
 SeenBy Check c holds old now out =
     checking.SawFirst old now (checking.runs_checked (holds (name_at 0 c)))
 SeenBy Sim c holds old now out = SawRuns old now (sim_runs (number_in c))
@@ -52,7 +58,7 @@ SeenBy other c holds old now out = Unit {0}
 -- of reports or of dissenters nothing is written.
 abbrev pub BrokenBy : CommandWord → CommandValue → ShelfState → ShelfState → SinkRun → Type 0
 BrokenBy Show c first last out =
-    BreaksOff first last (name_at 0 c) (λ read. lines_of (part_of c.options) (items_in read)) out
+    BreaksOff first last (name_at 0 c) (λ read. lines_of (form_of c.options) (items_in read)) out
 BrokenBy Salvage c first last out = MatchBool c.options.reports (Grew out.before out.after [])
     (BreaksOff first last (name_at 0 c) saved_of out)
 BrokenBy Vote c first last out = MatchBool c.options.dissent (Grew out.before out.after [])

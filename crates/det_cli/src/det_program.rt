@@ -9,6 +9,7 @@ ghost use Rattle.cli_words.specs.Reading.{command_of};
 ghost use Rattle.cli_words.specs.Ranges.{IsInRange};
 ghost use Rattle.probes.specs.Shows.{seen};
 ghost use Rattle.det_cli.specs.Texts.{command_page, help_text};
+ghost use Rattle.det_cli.specs.Outcome.{form_of};
 ghost use Rattle.det_cli.specs.Promise.{Runs, Refuses, IsPromised};
 ghost use Rattle.det_cli.specs.Records.{RunsUnseen};
 
@@ -21,6 +22,7 @@ use cli_answers::{Answer, Status, write_line};
 use cli_words::laws::option_range_law;
 use cli_words::{Command, CommandWord, Options, read_words};
 use cmd_records::compare_command::compare;
+use cmd_records::record_show::{Notation, ShowForm};
 use cmd_records::salvage_command::{salvage, salvage_reports};
 use cmd_records::show_command::show;
 use cmd_records::vote_command::{vote, vote_dissent};
@@ -122,7 +124,16 @@ where
         | CommandWord::Replay
         | CommandWord::Upgrade
         | CommandWord::Chain => dispatch_gathered(host, &command, shelf, out),
-        CommandWord::Show => show(alloc, first, command.options.part(), shelf, out, audience),
+        CommandWord::Show => {
+            show(
+                alloc,
+                first,
+                show_form(&command.options),
+                shelf,
+                out,
+                audience,
+            )
+        }
         CommandWord::Needs => needs(alloc, first, strict, shelf, out),
         CommandWord::Sim => sim(
             &workers_by_option(host, workers),
@@ -151,6 +162,20 @@ where
             audience,
         ),
         CommandWord::Vote => dispatch_vote(alloc, &command, shelf, out),
+    }
+}
+
+/// What `show` prints of a record, and how.
+fn show_form(options: &Options) -> ShowForm
+    ensures { result ≡ form_of options.now }
+{
+    ShowForm {
+        part: options.part(),
+        notation: if options.json {
+            Notation::Json
+        } else {
+            Notation::Lines
+        },
     }
 }
 

@@ -1,4 +1,4 @@
-use Rattle.std.proofs.Common.{[], ◌∷◌, true, false, refl, sym, ◌∙◌, inl, inr, arith}
+use Rattle.std.proofs.Common.{[], ◌∷◌, true, false, refl, sym, ap, ◌∙◌, inl, inr, arith}
 use Rattle.std.specs.Prelude.{Some, None}
 use Rattle.det_io.proofs.Opening.{asks-all, asks-prefix-none}
 use Rattle.cli_answers.specs.Ends.{reads_nothing, reads_records}
@@ -6,6 +6,7 @@ use Rattle.cli_answers.proofs.Keeping.{keeps-same}
 use Rattle.cli_answers.proofs.AnswerMeets.{meets-under}
 use Rattle.cli_words.specs.declared.table.CommandWord.TheVariants as words
 use Rattle.cli_words.specs.Command.{command_value}
+use Rattle.cmd_records.specs.declared.record_show.show_form.ShowForm.{ShowForm}
 use Rattle.det_cli.proofs.Helping.{help-there}
 use Rattle.det_cli.proofs.Joining.{same-command, sole-name, no-name, workers-fit, is-kept, is-gone, no-difference, help-is}
 use Rattle.det_cli.proofs.Joining.{runs-command, reported-runs}
@@ -27,21 +28,22 @@ returns-in-Show g c =
     let seen = command_value c.args.command in
     let names = c.name-first.result.now ∷ [] in
     let is = sole-name seen words.Show c.requires.range c.in-Show.is refl refl c.name-first.result.now c.name-first.ensures in
-    let part = c.part.ensures in
+    let form = c.show_form.ensures in
+    let part = ap (λ (f : ShowForm). f.part) form in
     runs-command (g.S.Slots.sees c.args.shelf.now) _ _ _ _ _ seen _ (same-command seen words.Show names c.in-Show.is is)
     (record {
-      meets = rw (← part) c.show.ensures.meets;
-      broken = rw (← part) (λ t e. c.show.ensures.broken e t);
+      meets = rw (← form) c.show.ensures.meets;
+      broken = rw (← form) (λ t e. c.show.ensures.broken e t);
       ends = c.show.ensures.ends;
       asked = c.show.ensures.asked;
       needed = λ t. c.show.ensures.asked;
       earlier = c.show.ensures.earlier;
-      left = rw (← part) (is-kept c.part.result _ _ c.show.ensures.kept);
-      gone = rw (← part) (λ e done. is-gone c.part.result _ (elim done [
+      left = rw (← part) (is-kept c.show_form.result.part _ _ c.show.ensures.kept);
+      gone = rw (← part) (λ e done. is-gone c.show_form.result.part _ (elim done [
         | inl is ↦ c.show.ensures.gone is
         | inr is ↦ absurd (no-difference reads_records _ is c.show.ensures.ends refl)
       ]) e);
-      saw = rw (← part) (λ t ne. c.show.ensures.saw ne t);
+      saw = rw (← form) (λ t ne. c.show.ensures.saw ne t);
     })
 
 pub returns-in-Sim : goal.returns-in-Sim
