@@ -32,7 +32,7 @@ RECORD = [
     ("det_io", "specs.Shelf", "IsAtEnd"),
     ("det_io", "specs.Sink", "GrewByPrefix"),
 ]
-MOST_LINES = 2470
+MOST_LINES = 2480
 MOST_LINES_OF_A_RECORD = 415
 
 HEAD = re.compile(
