@@ -1,1 +1,2 @@
+mod CopyLines
 mod Untaken

@@ -1,6 +1,6 @@
--- The texts of hints on arguments.
-use Rattle.std.specs.Prelude.{ℕ, List, [], ◌++◌, length, map, take, ◌&&◌, nat_le, nat_lt}
-use Rattle.std.specs.Prelude.{codes, Option, None, Some, option_map, if◌then◌else◌}
+-- The texts of hints on arguments, and of those with names of files.
+use Rattle.std.specs.Prelude.{ℕ, ◌+◌, List, [], ◌∷◌, ◌++◌, length, map, take, ◌&&◌, nat_le, nat_lt}
+use Rattle.std.specs.Prelude.{codes, decimal, Option, None, Some, option_map, if◌then◌else◌}
 use Rattle.hints_on_words.specs.declared.hint_lines.Help.{Help}
 
 -- a byte that is a printable ASCII character, or `?`
@@ -26,3 +26,17 @@ command_text None = codes "--help"
 abbrev pub help_text : Help → List ℕ
 help_text help = codes "see " ++ (help.program.now ++ (codes " "
     ++ command_text (option_map (λ word. word.now) help.command)))
+
+-- a hint on the file of this name
+abbrev pub named_text : List ℕ → List ℕ → List ℕ
+named_text name text = excerpt_text name ++ (codes ": " ++ text)
+
+-- the hint with the number of a copy and its name
+abbrev pub copy_text : ℕ → List ℕ → List ℕ
+copy_text number name = codes "copy " ++ (decimal number ++ (codes ": " ++ excerpt_text name))
+
+-- the lines of copies with these names, counted on from this number
+abbrev pub copy_lines : ℕ → List (List ℕ) → List ℕ
+copy_lines number [] = []
+copy_lines number (name ∷ names) =
+    hint_line (copy_text number name) ++ copy_lines (number + 1) names

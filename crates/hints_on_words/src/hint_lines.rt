@@ -1,11 +1,12 @@
 //! Writes hints, and those on arguments that a program refused.
-ghost use Rattle.std.specs.Prelude.{◌≡◌, ◌≤◌, ℕ, List, take, Some, IsNone, IfSome, IsUtf8};
+ghost use Rattle.std.specs.Prelude.{◌≡◌, ◌≤◌, ℕ, List, take, true, Some, IsNone, IfSome, IsUtf8};
 ghost use Rattle.std.specs.IoError.{error_kind};
 ghost use Rattle.std.specs.declared.io.ErrorKind.TheVariants.{BrokenPipe};
-ghost use Rattle.det_io.specs.Sink.{GrewByPrefix};
+ghost use Rattle.det_io.specs.Sink.{Grew, GrewByPrefix};
 ghost use Rattle.hints_on_words.specs.Texts.{help_text, hint_line};
 
 use crate::excerpt::Excerpt;
+use crate::named_hints::write_named_hint;
 use crate::system::{read_failure, write_failure};
 use crate::word_faults::WordsFault;
 use det_io::{Sink, write_all};
@@ -44,6 +45,8 @@ pub fn write_hint<D: Display + Drop, K: Sink>(alloc: Global, hint: D, err: &mut 
         GrewByPrefix (K.took err.old) (K.took err.new) (hint_line text)) }
     ensures line { (text : List ℕ) × GrewByPrefix (K.took err.old) (K.took err.new)
         (hint_line text) }
+    ensures whole { result ≡ true → IfSome (D.output hint) (λ text.
+        Grew (K.took err.old) (K.took err.new) (hint_line text)) }
 {
     match format!(in alloc; "{hint}") {
         Ok(text) => write_hint_text(alloc, &text, err),
@@ -52,8 +55,9 @@ pub fn write_hint<D: Display + Drop, K: Sink>(alloc: Global, hint: D, err: &mut 
 }
 
 /// Writes the line of a hint with this text.
-fn write_hint_text<K: Sink>(alloc: Global, text: &str, err: &mut K) -> bool
-    ensures { GrewByPrefix (K.took err.old) (K.took err.new) (hint_line text.now) }
+pub(crate) fn write_hint_text<K: Sink>(alloc: Global, text: &str, err: &mut K) -> bool
+    ensures part { GrewByPrefix (K.took err.old) (K.took err.new) (hint_line text.now) }
+    ensures whole { result ≡ true → Grew (K.took err.old) (K.took err.new) (hint_line text.now) }
 {
     match format!(in alloc; "  {text}\n") {
         Ok(line) => write_all(err, line.as_bytes()).is_ok(),
@@ -71,8 +75,8 @@ pub fn write_input_hint<K: Sink>(
 )
     ensures { IsNone failed → err.new ≡ err.old }
 {
-    if let Some(reason) = read_failure(alloc, names, failed) {
-        write_hint(alloc, reason, err);
+    if let Some((name, reason)) = read_failure(alloc, names, failed) {
+        write_named_hint(alloc, name, reason, err);
     }
 }
 

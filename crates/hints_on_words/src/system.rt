@@ -23,19 +23,18 @@ fn system_reason(alloc: Global, error: Error) -> Option<String> {
     format!(in alloc; "{reason}").ok()
 }
 
-/// The name whose slot failed last, with the system's reason. `names` are in the order in which the
+/// The name whose slot failed last, and the system's reason. `names` are in the order in which the
 /// shelf opened them. None if no name has that slot, or memory runs out.
-pub(crate) fn read_failure(
+pub(crate) fn read_failure<'a>(
     alloc: Global,
-    names: &[&str],
+    names: &[&'a str],
     failed: Option<(u32, Error)>,
-) -> Option<String>
+) -> Option<(&'a str, String)>
     ensures { IsNone failed → IsNone result }
 {
     let (slot, error) = failed?;
-    let name = Excerpt(names.get(slot as usize)?.as_bytes());
-    let reason = system_reason(alloc, error)?;
-    format!(in alloc; "{name}: {reason}").ok()
+    let name = *names.get(slot as usize)?;
+    Some((name, system_reason(alloc, error)?))
 }
 
 /// Why a write failed. None if memory runs out, or for a broken pipe: the reader closed it, which
