@@ -12,8 +12,9 @@ const MARK_COLOUR = COLOURS[0];
 const CHART_HEIGHT = 150;
 const MARGIN = 6;
 
-// A canvas with as many points as the screen has, which is drawn on in CSS pixels.
-function sized(canvas, height) {
+// Gives a canvas as many points as the screen has. Returns what draws on it in CSS pixels, and its
+// size.
+function sizeCanvas(canvas, height) {
   const width = canvas.clientWidth || 960;
   const scale = window.devicePixelRatio || 1;
   canvas.width = Math.round(width * scale);
@@ -36,7 +37,7 @@ function cyclesIn(from, to) {
 
 // A stripe of the cycles of a copy: finished, refused, or not there.
 function drawStripe(canvas, runs, most) {
-  const { paint, width, height } = sized(canvas, 18);
+  const { paint, width, height } = sizeCanvas(canvas, 18);
   const step = width / Math.max(1, most);
   paint.fillStyle = ink('--none');
   paint.fillRect(0, 0, width, height);
@@ -66,7 +67,7 @@ function refusalLine({ cycle, phase, pass, element, code }) {
 // Where two copies differ: four lanes, and under them a row for the elements of a mark. A ring is
 // around the place of the verdict.
 function drawMap(canvas, map, ring) {
-  const { paint, width, height } = sized(canvas, LANES_HEIGHT + Math.max(40, map.rows * 4));
+  const { paint, width, height } = sizeCanvas(canvas, LANES_HEIGHT + Math.max(40, map.rows * 4));
   const wide = width / map.width;
   const high = (height - LANES_HEIGHT) / map.rows;
   const fill = (column, top, tall) =>
@@ -149,7 +150,7 @@ function columnOf(values, from, to) {
 // Lines over cycles. If a pixel has several cycles, a line goes through their mean, over a band
 // from the least to the greatest value, so no extreme is lost.
 function drawLines(canvas, lines, cycles, range) {
-  const { paint, width, height } = sized(canvas, CHART_HEIGHT);
+  const { paint, width, height } = sizeCanvas(canvas, CHART_HEIGHT);
   const span = range.greatest - range.least || 1;
   const y = (v) => height - MARGIN - (v - range.least) / span * (height - 2 * MARGIN);
   const columns = Math.min(cycles, Math.floor(width));

@@ -431,7 +431,7 @@ async function take(files) {
 
 const bytesOf = (text) => Uint8Array.from(atob(text.trim()), (c) => c.charCodeAt(0));
 
-const named = (list) => [...list].map((file) => ({ name: file.name, blob: file }));
+const namedBlobs = (list) => [...list].map((file) => ({ name: file.name, blob: file }));
 
 async function start() {
   try {
@@ -442,7 +442,7 @@ async function start() {
     document.body.dataset.done = '1';
     return;
   }
-  $('files').onchange = () => take(named($('files').files));
+  $('files').onchange = () => take(namedBlobs($('files').files));
   document.ondragover = (event) => {
     event.preventDefault();
     $('drop').classList.add('over');
@@ -451,7 +451,7 @@ async function start() {
   document.ondrop = (event) => {
     event.preventDefault();
     $('drop').classList.remove('over');
-    take(named(event.dataTransfer.files));
+    take(namedBlobs(event.dataTransfer.files));
   };
   const embedded = [...document.querySelectorAll('script.record')];
   if (embedded.length) {

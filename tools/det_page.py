@@ -55,7 +55,7 @@ def empty_page(given: Optional[Path]) -> str:
     return page
 
 
-def embedded(path: Path) -> str:
+def record_element(path: Path) -> str:
     """A record as an element of the page. A name that isn't UTF-8 is shown with replacements."""
     name = html.escape(os.fsencode(path.name).decode(errors="replace"))
     data = base64.b64encode(read(path)).decode()
@@ -66,7 +66,7 @@ def page_with(records: Sequence[Path], page: Optional[Path]) -> bytes:
     if not 1 <= len(records) <= MOST_RECORDS:
         raise Failed(BAD_WORDS, f"{len(records)} records: a page takes one to {MOST_RECORDS}")
     before, after = empty_page(page).split(MARK)
-    return "\n".join([before, *map(embedded, records), after]).encode()
+    return "\n".join([before, *map(record_element, records), after]).encode()
 
 
 def write(data: bytes, out: Optional[Path]) -> None:

@@ -10,13 +10,13 @@ use Rattle.det_io.specs.declared.failure.Stopped.TheVariants.{Refused, Failed}
 use Rattle.copies.specs.declared.verdict.BadCopy.{BadCopy}
 use Rattle.copies.specs.declared.verdict.Verdict.{Verdict}
 use Rattle.copies.specs.CompareCopies.{AreDifferent, AreGiven, AreLeft, VerdictIs}
-use Rattle.page.specs.Shelves.{cut, lent_state}
+use Rattle.page.specs.Shelves.{records_in, lent_state}
 use Rattle.page.specs.Answers.{IsVerdict}
 
 abbrev pub eight : List ℕ
 eight = 0 ∷ 1 ∷ 2 ∷ 3 ∷ 4 ∷ 5 ∷ 6 ∷ 7 ∷ []
 
-pub as-many : (bytes lengths : List ℕ) → length (cut bytes lengths) ≡ length lengths
+pub as-many : (bytes lengths : List ℕ) → length (records_in bytes lengths) ≡ length lengths
 as-many bytes [] = refl
 as-many bytes (n ∷ lengths) = ap suc (as-many (drop n bytes) lengths)
 
@@ -67,8 +67,8 @@ is-verdict (Err (Failed Read)) v is reads writes = absurd (let r = reads refl in
 is-verdict (Err (Failed Write)) v is reads writes = writes refl
 is-verdict (Err (Failed OutOfMemory)) v is reads writes = tt
 
-module _ (bytes lengths : List ℕ) (rests : List (List ℕ)) (slots : List ℕ) (few : length lengths ≤ 8) (are : rests ≡ cut bytes lengths)
-    (is : slots ≡ take (length lengths) eight) where
+module _ (bytes lengths : List ℕ) (rests : List (List ℕ)) (slots : List ℕ) (few : length lengths ≤ 8)
+    (are : rests ≡ records_in bytes lengths) (is : slots ≡ take (length lengths) eight) where
   long : length rests ≡ length lengths
   long = ap length are ∙ as-many bytes lengths
 
@@ -81,6 +81,6 @@ module _ (bytes lengths : List ℕ) (rests : List (List ℕ)) (slots : List ℕ)
   pub different-all : AreDifferent slots
   different-all = subst AreDifferent (sym is) (different-take (length lengths) eight different-eight)
 
-  pub left-all : AreLeft (lent_state rests) slots (cut bytes lengths)
-  left-all = subst (λ s. AreLeft (lent_state rests) s (cut bytes lengths)) (sym slots-are)
+  pub left-all : AreLeft (lent_state rests) slots (records_in bytes lengths)
+  left-all = subst (λ s. AreLeft (lent_state rests) s (records_in bytes lengths)) (sym slots-are)
       (subst (AreLeft (lent_state rests) (take (length rests) eight)) are (left-eight rests (let l = long in omega (arith, l, few))))

@@ -1,5 +1,5 @@
 pub mod Walking
-pub mod Laying
+pub mod Fills
 pub mod RunRows
 pub mod LentSlots
 pub mod CopySlots

@@ -7,12 +7,12 @@ use Rattle.det_values.specs.declared.frames.RunFrame.{RunFrame}
 use Rattle.page.specs.declared.cell.PageCell.{PageCell}
 use Rattle.page.specs.declared.cell.Part.{Part}
 use Rattle.page.specs.declared.cell.Part.TheVariants.{Element, Output}
-use Rattle.page.specs.Rows.{laid}
+use Rattle.page.specs.Rows.{overlay}
 use Rattle.page.specs.Walks.{runs_of}
 
 abbrev pub present_cell : List ℕ → ℕ → PageCell
 present_cell bytes draws = record {
-  bytes = laid bytes (replicate 64 0);
+  bytes = overlay bytes (replicate 64 0);
   length = length bytes;
   draws = draws;
   present = 1;

@@ -28,11 +28,12 @@ add_pair same mark m =
 
 -- Of pairs of elements from this number on, those that differ are counted and marked. A mark is
 -- for `per` elements. The end of the shorter list is a difference too.
-abbrev pub marked : ℕ → ℕ → List DrawnElement → List DrawnElement → ElementMarks → ElementMarks
-marked per n [] [] m = m
-marked per n [] (y ∷ ys) m = marked per (suc n) [] ys (add_pair false (n / per) m)
-marked per n (x ∷ xs) [] m = marked per (suc n) xs [] (add_pair false (n / per) m)
-marked per n (x ∷ xs) (y ∷ ys) m = marked per (suc n) xs ys (add_pair (drawn_eq x y) (n / per) m)
+abbrev pub marks_from : ℕ → ℕ → List DrawnElement → List DrawnElement → ElementMarks → ElementMarks
+marks_from per n [] [] m = m
+marks_from per n [] (y ∷ ys) m = marks_from per (suc n) [] ys (add_pair false (n / per) m)
+marks_from per n (x ∷ xs) [] m = marks_from per (suc n) xs [] (add_pair false (n / per) m)
+marks_from per n (x ∷ xs) (y ∷ ys) m =
+    marks_from per (suc n) xs ys (add_pair (drawn_eq x y) (n / per) m)
 
 -- ---- runs
 
@@ -71,7 +72,7 @@ with_outcomes found per (Refused at) (Refused other) =
     with_result found (unless (place.eq-value.it at other))
 with_outcomes found per (Finished elements output) (Finished others other) =
     with_marks found (unless (pointwise nat_eq output other))
-    (marked per 0 elements others no_marks)
+    (marks_from per 0 elements others no_marks)
 with_outcomes found per outcome other = with_result found 1
 
 -- in which parts two runs of a cycle differ

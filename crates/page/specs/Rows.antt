@@ -12,10 +12,10 @@ use Rattle.page.specs.declared.run_rows.PageRun.{PageRun}
 use Rattle.page.specs.Walks.{runs_of}
 
 -- the first of these in place of the first old ones, as far as there is room
-abbrev pub laid : {X : Type 0} → List X → List X → List X
-laid [] old = old
-laid (x ∷ xs) [] = []
-laid (x ∷ xs) (y ∷ old) = x ∷ laid xs old
+abbrev pub overlay : {X : Type 0} → List X → List X → List X
+overlay [] old = old
+overlay (x ∷ xs) [] = []
+overlay (x ∷ xs) (y ∷ old) = x ∷ overlay xs old
 
 abbrev pub phase_number : Phase → ℕ
 phase_number phases.Prepare = 1

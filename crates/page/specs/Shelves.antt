@@ -4,9 +4,9 @@ use Rattle.det_io.specs.Shelf.{ShelfState}
 use Rattle.page.specs.declared.lent_shelf.LentShelf.{LentShelf}
 
 -- the records of these lengths, as far as there are bytes
-abbrev pub cut : List ℕ → List ℕ → List (List ℕ)
-cut bytes [] = []
-cut bytes (n ∷ lengths) = take n bytes ∷ cut (drop n bytes) lengths
+abbrev pub records_in : List ℕ → List ℕ → List (List ℕ)
+records_in bytes [] = []
+records_in bytes (n ∷ lengths) = take n bytes ∷ records_in (drop n bytes) lengths
 
 -- slots that have these bytes left, and that never fail
 abbrev pub lent_state : List (List ℕ) → ShelfState

@@ -1,15 +1,15 @@
 //! The bytes of an element or of an output, cycle by cycle.
-ghost use Rattle.std.specs.Prelude.{◌≡◌, IfSome, IfNone, Some, None, length, slice_get, replicate};
+ghost use Rattle.std.specs.Prelude.{◌≡◌, IfSome, IfNone, Some, None, length, slice_get};
 ghost use Rattle.det_values.specs.Spelling.{an_element};
 ghost use Rattle.det_values.specs.declared.frames.RunFrame.{RunFrame};
 ghost use Rattle.record_grammar.specs.Record.{fault as fault_in};
 ghost use Rattle.page.specs.Walks.{IsRunOf};
-ghost use Rattle.page.specs.Rows.{laid};
+ghost use Rattle.page.specs.Rows.{overlay};
 ghost use Rattle.page.specs.Cells.{cells_of, cell_in};
 
-use crate::laid::put_row;
 use crate::lent_bytes::fill_front;
 use crate::record_walk::{LentOutcome, LentRun, RecordWalk};
+use crate::row_table::put_row;
 use record_grammar::RecordFault;
 use record_view::ElementWalk;
 
@@ -97,7 +97,7 @@ fn run_cell(part: Part, run: LentRun<'_>) -> PageCell
 /// has one.
 pub(crate) fn put_cells(part: Part, bytes: &[u8], cells: &mut [PageCell]) -> Option<RecordFault>
     ensures fault { result ≡ fault_in bytes.now }
-    ensures cells { cells.new ≡ laid (cells_of part bytes.now) cells.old }
+    ensures cells { cells.new ≡ overlay (cells_of part bytes.now) cells.old }
 {
     let mut walk = RecordWalk::new(bytes);
     let mut count = 0;

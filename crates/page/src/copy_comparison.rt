@@ -1,7 +1,7 @@
 //! Compares copies that lie one after another in one block of memory.
 ghost use Rattle.std.specs.Prelude.{◌≡◌, ◌≤◌, length};
 ghost use Rattle.copies.specs.Verdict.{verdict};
-ghost use Rattle.page.specs.Shelves.{cut};
+ghost use Rattle.page.specs.Shelves.{records_in};
 ghost use Rattle.page.specs.Answers.{IsVerdict};
 
 use crate::lent_shelf::LentShelf;
@@ -25,7 +25,7 @@ pub(crate) fn compare_copies(
 ) -> Result<Verdict, Stopped<BadCopy>>
     requires some { 2 ≤ length lengths.now }
     requires few { length lengths.now ≤ 8 }
-    ensures { IsVerdict result (verdict (cut bytes.now lengths.now)) }
+    ensures { IsVerdict result (verdict (records_in bytes.now lengths.now)) }
 {
     let mut shelf = LentShelf::new(alloc, bytes, lengths)?;
     let all = [0, 1, 2, 3, 4, 5, 6, 7];

@@ -9,11 +9,11 @@ ghost use Rattle.copies.specs.declared.verdict.BadCopy.{BadCopy};
 ghost use Rattle.copies.specs.Verdict.{verdict};
 ghost use Rattle.copies.specs.verdict_text.Verdicts.{verdict_line};
 ghost use Rattle.page.specs.declared.cell.Part.TheVariants.{Element, Output};
-ghost use Rattle.page.specs.Shelves.{cut};
+ghost use Rattle.page.specs.Shelves.{records_in};
 ghost use Rattle.page.specs.Answers.{verdict_number, IsBadCount, fault_of, IsFaultAnswer};
 ghost use Rattle.page.specs.Answers.{nobody, form_of};
 ghost use Rattle.page.specs.Walks.{runs_of};
-ghost use Rattle.page.specs.Rows.{laid, rows_of};
+ghost use Rattle.page.specs.Rows.{overlay, rows_of};
 ghost use Rattle.page.specs.Cells.{cells_of};
 ghost use Rattle.page.specs.Differences.{differences_of};
 
@@ -95,15 +95,15 @@ pub extern "C" fn page_compare(
     fault: &mut PageFault,
 ) -> u8
     ensures verdict { result < 2 → (found : Verdict)
-        × (verdict (cut bytes.now lengths.now) ≡ Ok found) × (result ≡ verdict_number found)
+        × (verdict (records_in bytes.now lengths.now) ≡ Ok found) × (result ≡ verdict_number found)
         × (written.new ≡ length (verdict_line found))
         × (line.new ≡ verdict_line found ++ drop (length (verdict_line found)) line.old) }
     ensures bad { result ≡ 2 → (bad : BadCopy)
-        × (verdict (cut bytes.now lengths.now) ≡ Err bad)
+        × (verdict (records_in bytes.now lengths.now) ≡ Err bad)
         × (fault.new ≡ fault_of bad.copy bad.fault) }
     ensures count { result ≡ 3 → IsBadCount lengths.now }
     ensures room { result ≡ 4 → (found : Verdict)
-        × (verdict (cut bytes.now lengths.now) ≡ Ok found)
+        × (verdict (records_in bytes.now lengths.now) ≡ Ok found)
         × (length line.old < length (verdict_line found)) }
     ensures answers { result < 6 }
 {
@@ -194,7 +194,7 @@ pub extern "C" fn page_runs(
     fault: &mut PageFault,
 ) -> u8
     ensures fault { IsFaultAnswer result (fault_in bytes.now) fault.old fault.new }
-    ensures rows { rows.new ≡ laid (rows_of bytes.now) rows.old }
+    ensures rows { rows.new ≡ overlay (rows_of bytes.now) rows.old }
     ensures count { count.new ≡ length (runs_of bytes.now) }
 {
     give_fault(put_runs(bytes, rows, count), fault)
@@ -210,7 +210,7 @@ pub extern "C" fn page_values(
     fault: &mut PageFault,
 ) -> u8
     ensures fault { IsFaultAnswer result (fault_in bytes.now) fault.old fault.new }
-    ensures cells { cells.new ≡ laid (cells_of (Element element) bytes.now) cells.old }
+    ensures cells { cells.new ≡ overlay (cells_of (Element element) bytes.now) cells.old }
 {
     give_fault(put_cells(Part::Element(element), bytes, cells), fault)
 }
@@ -219,7 +219,7 @@ pub extern "C" fn page_values(
 #[unsafe(no_mangle)]
 pub extern "C" fn page_outputs(bytes: &[u8], cells: &mut [PageCell], fault: &mut PageFault) -> u8
     ensures fault { IsFaultAnswer result (fault_in bytes.now) fault.old fault.new }
-    ensures cells { cells.new ≡ laid (cells_of Output bytes.now) cells.old }
+    ensures cells { cells.new ≡ overlay (cells_of Output bytes.now) cells.old }
 {
     give_fault(put_cells(Part::Output, bytes, cells), fault)
 }
@@ -228,7 +228,7 @@ pub extern "C" fn page_outputs(bytes: &[u8], cells: &mut [PageCell], fault: &mut
 /// mark is for `per_mark` elements; 0 counts as 1.
 #[unsafe(no_mangle)]
 pub extern "C" fn page_map(first: &[u8], other: &[u8], per_mark: u32, rows: &mut [PageDifference])
-    ensures { rows.new ≡ laid (differences_of (max per_mark 1) first.now other.now) rows.old }
+    ensures { rows.new ≡ overlay (differences_of (max per_mark 1) first.now other.now) rows.old }
 {
     put_differences(per_mark.max(1), first, other, rows);
 }

@@ -11,7 +11,7 @@ pub(crate) struct LentShelf<'a> {
 
 impl<'a> LentShelf<'a> {
     ghost use Rattle.std.specs.Prelude.{◌≡◌, ◌∷◌, [], IfOk};
-    ghost use Rattle.page.specs.Shelves.{cut, rests_of};
+    ghost use Rattle.page.specs.Shelves.{records_in, rests_of};
 
     /// The records of these lengths. If there are too few bytes, the last records are shorter.
     pub(crate) fn new(
@@ -19,7 +19,7 @@ impl<'a> LentShelf<'a> {
         bytes: &'a [u8],
         lengths: &[usize],
     ) -> Result<LentShelf<'a>, AllocError>
-        ensures { IfOk result (λ shelf. rests_of shelf ≡ cut bytes.now lengths.now) }
+        ensures { IfOk result (λ shelf. rests_of shelf ≡ records_in bytes.now lengths.now) }
     {
         let mut rests = Vec::new(alloc);
         let mut rest = bytes;

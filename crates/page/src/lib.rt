@@ -5,11 +5,11 @@
 mod cell;
 mod copy_comparison;
 mod export;
-mod laid;
 mod lent_bytes;
 mod lent_shelf;
 mod record_print;
 mod record_walk;
+mod row_table;
 mod run_difference;
 mod run_rows;
 #[cfg(test)]

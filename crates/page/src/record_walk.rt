@@ -1,6 +1,6 @@
 //! Reads the items of a record whose bytes are all there, one after another, without a copy.
 //! `record_reader` reads records that come in pieces.
-ghost use Rattle.std.specs.Prelude.{◌≡◌, ◌<◌, ℕ, List, [], ◌∷◌, IfSome, IfNone, length};
+ghost use Rattle.std.specs.Prelude.{◌≡◌, ◌<◌, [], ◌∷◌, IfSome, IfNone, length};
 ghost use Rattle.det_values.specs.declared.frames.RunFrame.{RunFrame};
 ghost use Rattle.record_grammar.specs.declared.item.Item.{Item};
 ghost use Rattle.record_grammar.specs.Record.{decoded_all, fault_from};

@@ -1,17 +1,17 @@
 //! In which parts two copies of a cycle differ, cycle by cycle. `copies` finds only the first such
 //! part of a whole record.
-ghost use Rattle.std.specs.Prelude.{◌≡◌, ◌≤◌, ◌<◌, ◌-◌, ◌^◌, length, replicate};
+ghost use Rattle.std.specs.Prelude.{◌≡◌, ◌≤◌, ◌<◌, ◌-◌, ◌^◌, length};
 ghost use Rattle.std.specs.Cmp.Lexicographic.{pointwise};
 ghost use Rattle.det_values.specs.contracts.sample.SamplePartialEq.TheImpl as sample;
 ghost use Rattle.det_values.specs.declared.frames.Outcome.{Outcome};
 ghost use Rattle.det_values.specs.declared.frames.RunFrame.{RunFrame};
-ghost use Rattle.page.specs.Walks.{IsRunOf, IsOutcomeOf, runs_of};
-ghost use Rattle.page.specs.Rows.{laid};
-ghost use Rattle.page.specs.Differences.{unless, no_marks, marked, with_outcomes};
+ghost use Rattle.page.specs.Walks.{IsRunOf, IsOutcomeOf};
+ghost use Rattle.page.specs.Rows.{overlay};
+ghost use Rattle.page.specs.Differences.{unless, no_marks, marks_from, with_outcomes};
 ghost use Rattle.page.specs.Differences.{difference_of, differences_of};
 
-use crate::laid::put_row;
 use crate::record_walk::{LentOutcome, LentRun, RecordWalk};
+use crate::row_table::put_row;
 use record_view::{ElementWalk, SampleWalk, events_at, view_samples};
 
 /// In which parts two runs of a cycle differ.
@@ -89,7 +89,7 @@ fn mark_elements(
     requires some { 1 ≤ per_mark }
     requires left { length left ≤ most }
     requires right { length right ≤ most }
-    ensures { result ≡ marked per_mark 0 left.entry right.entry no_marks }
+    ensures { result ≡ marks_from per_mark 0 left.entry right.entry no_marks }
 {
     let mut left = left;
     let mut right = right;
@@ -179,7 +179,7 @@ pub(crate) fn put_differences(
     rows: &mut [PageDifference],
 )
     requires { 1 ≤ per_mark }
-    ensures { rows.new ≡ laid (differences_of per_mark first.now other.now) rows.old }
+    ensures { rows.new ≡ overlay (differences_of per_mark first.now other.now) rows.old }
 {
     let mut left = RecordWalk::new(first);
     let mut right = RecordWalk::new(other);

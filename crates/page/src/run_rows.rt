@@ -1,12 +1,12 @@
 //! The cycles of a record as rows of numbers.
-ghost use Rattle.std.specs.Prelude.{◌≡◌, ◌≤◌, ◌*◌, ◌-◌, ◌^◌, length};
+ghost use Rattle.std.specs.Prelude.{◌≡◌, length};
 ghost use Rattle.det_values.specs.declared.frames.RunFrame.{RunFrame};
 ghost use Rattle.record_grammar.specs.Record.{fault as fault_in};
 ghost use Rattle.page.specs.Walks.{IsRunOf, runs_of};
-ghost use Rattle.page.specs.Rows.{laid, row_of, all_draws};
+ghost use Rattle.page.specs.Rows.{overlay, row_of, all_draws};
 
-use crate::laid::put_row;
 use crate::record_walk::{LentOutcome, LentRun, RecordWalk};
+use crate::row_table::put_row;
 use det_values::Phase;
 use record_grammar::RecordFault;
 use record_view::ElementWalk;
@@ -119,7 +119,7 @@ fn run_row(run: LentRun<'_>) -> PageRun
 /// of the record, if it has one.
 pub(crate) fn put_runs(bytes: &[u8], rows: &mut [PageRun], count: &mut usize) -> Option<RecordFault>
     ensures fault { result ≡ fault_in bytes.now }
-    ensures rows { rows.new ≡ laid (Rattle.page.specs.Rows.rows_of bytes.now) rows.old }
+    ensures rows { rows.new ≡ overlay (Rattle.page.specs.Rows.rows_of bytes.now) rows.old }
     ensures count { count.new ≡ length (runs_of bytes.now) }
 {
     let mut walk = RecordWalk::new(bytes);

@@ -1,6 +1,6 @@
 use Rattle.std.proofs.Common.{ℕ, List, ap, length, replicate}
 use Rattle.page.specs.declared.cell.PageCell.{PageCell}
-use Rattle.page.proofs.Laying.{laid_front}
+use Rattle.page.proofs.Fills.{overlay_front}
 use Rattle.page.proofs.cell.present_cell.Goals as goal
 
 abbrev a_cell : ℕ → ℕ → List ℕ → PageCell
@@ -10,4 +10,4 @@ pub returns : goal.returns
 returns c =
     let e = c.fill_front.ensures in
     ap (a_cell (length c.args.bytes.now) c.args.draws)
-    (laid_front c.fill_front.result c.args.bytes.now (replicate 64 0) c.fill_front.new.buf e.count e.front e.rest)
+    (overlay_front c.fill_front.result c.args.bytes.now (replicate 64 0) c.fill_front.new.buf e.count e.front e.rest)

@@ -1,5 +1,4 @@
-use Rattle.std.proofs.Common.{ℕ, ◌-◌, Option, Some, refl, sym, ap, ◌∙◌, rules}
-use Rattle.record_grammar.specs.declared.place.Place.{Place}
+use Rattle.std.proofs.Common.{ℕ, Option, Some, sym, ap, ◌∙◌, rules}
 use Rattle.record_grammar.specs.declared.record_fault.Reason.{Reason}
 use Rattle.record_grammar.specs.declared.record_fault.RecordFault.{RecordFault}
 use Rattle.record_grammar.specs.Record.{Ending, fault_from, ending_at}

@@ -1,4 +1,4 @@
-use Rattle.std.proofs.Common.{drop, refl, sym, ap, rules}
+use Rattle.std.proofs.Common.{drop, refl, sym, ap}
 use Rattle.record_grammar.specs.Record.{Decoded}
 use Rattle.record_grammar.proofs.Leads.{can_follow}
 use Rattle.page.proofs.Walking.{view_now, viewed_ok, no_items, item_left, item_shorter}
