@@ -120,9 +120,9 @@ class Records {
     const answer = this.exports.page_text(
         ...this.record(copy, most), cycle, BigInt(out), BigInt(TEXT_ROOM), BigInt(this.count_at),
         BigInt(this.fault_at));
-    const text = answer === 4 ? null : this.textAt(out, this.count());
+    const text = answer > 2 ? null : this.textAt(out, this.count());
     this.giveBack(out);
-    if (text === null) throw new Error('too long a text, or out of memory');
+    if (text === null) throw new Error(answer === 4 ? 'too long a text' : 'out of memory');
     return text;
   }
 

@@ -3,3 +3,4 @@ pub mod Fills
 pub mod RunRows
 pub mod LentSlots
 pub mod CopySlots
+pub mod PrintedText

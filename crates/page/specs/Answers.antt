@@ -15,9 +15,10 @@ use Rattle.cmd_records.specs.record_show.Text.{text_of}
 use Rattle.copies.specs.declared.verdict.BadCopy.{BadCopy}
 use Rattle.copies.specs.declared.verdict.Verdict.{Verdict}
 use Rattle.copies.specs.declared.verdict.Verdict.TheVariants.{Agree, Differ}
-use Rattle.det_io.specs.declared.failure.Failure.TheVariants.{OutOfMemory}
+use Rattle.det_io.specs.declared.failure.Failure.TheVariants.{Write, OutOfMemory}
 use Rattle.det_io.specs.declared.failure.Stopped.{Stopped}
 use Rattle.det_io.specs.declared.failure.Stopped.TheVariants.{Refused, Failed}
+use Rattle.det_io.specs.Prefix.{IsProperPrefix}
 use Rattle.page.specs.declared.export.PageFault.{PageFault}
 
 -- a result is this verdict, or memory was short
@@ -31,7 +32,7 @@ abbrev pub verdict_number : Verdict → ℕ
 verdict_number (Agree cycles) = 0
 verdict_number (Differ copy at) = 1
 
--- too few copies, or too many
+-- fewer than 2 copies, or more than 8
 abbrev pub IsBadCount : List ℕ → Type 0
 IsBadCount lengths = (length lengths < 2) ⊎ (8 < length lengths)
 
@@ -73,4 +74,5 @@ abbrev pub IsPrinted : Result Shown (Stopped RecordFault) → ShowForm → List 
 IsPrinted (Ok shown) form bytes out = (fault_in bytes ≡ None) × (out ≡ text_of form nobody bytes)
 IsPrinted (Err (Refused fault)) form bytes out =
     (fault_in bytes ≡ Some fault) × (out ≡ text_of form nobody bytes)
+IsPrinted (Err (Failed Write)) form bytes out = IsProperPrefix out (text_of form nobody bytes)
 IsPrinted (Err (Failed failure)) form bytes out = Unit {0}

@@ -1,6 +1,8 @@
 //! What a page calls. Whatever it passes, a call returns, and touches no bytes but those that it was
 //! given. Records that are compared lie one after another.
-ghost use Rattle.std.specs.Prelude.{◌≡◌, ◌<◌, ◌++◌, ◌⊎◌, Ok, Err, Some, None, length, drop, max};
+ghost use Rattle.std.specs.Prelude.{◌≡◌, ◌<◌, ◌++◌, ◌⊎◌, ◌↔◌, Ok, Err, Some, None, length, drop};
+ghost use Rattle.std.specs.Prelude.{max};
+ghost use Rattle.det_io.specs.declared.failure.Failure.TheVariants.{Write};
 ghost use Rattle.record_grammar.specs.declared.record_fault.RecordFault.{RecordFault};
 ghost use Rattle.record_grammar.specs.Record.{fault as fault_in};
 ghost use Rattle.cmd_records.specs.record_show.Text.{text_of};
@@ -25,7 +27,7 @@ use crate::run_difference::{PageDifference, put_differences};
 use crate::run_rows::{PageRun, put_runs};
 use copies::Verdict;
 use copies::verdict_text::verdict_line;
-use det_io::{FailList, MemSink, Stopped};
+use det_io::{FailList, Failure, MemSink, Stopped};
 use record_grammar::{Reason, RecordFault};
 use std::alloc::Global;
 
@@ -101,7 +103,7 @@ pub extern "C" fn page_compare(
     ensures bad { result ≡ 2 → (bad : BadCopy)
         × (verdict (records_in bytes.now lengths.now) ≡ Err bad)
         × (fault.new ≡ fault_of bad.copy bad.fault) }
-    ensures count { result ≡ 3 → IsBadCount lengths.now }
+    ensures count { (result ≡ 3) ↔ IsBadCount lengths.now }
     ensures room { result ≡ 4 → (found : Verdict)
         × (verdict (records_in bytes.now lengths.now) ≡ Ok found)
         × (length line.old < length (verdict_line found)) }
@@ -127,10 +129,22 @@ pub extern "C" fn page_compare(
     verdict_number(&verdict)
 }
 
+/// The answer if printing failed after this many bytes. A sink in memory refuses bytes only once it
+/// is full.
+fn failure_answer(failure: Failure, printed: usize, room: usize) -> u8
+    ensures room { result ≡ 4 → (failure ≡ Write) × (printed ≡ room) }
+    ensures answers { (result ≡ 4) ⊎ (result ≡ 5) }
+{
+    match failure {
+        Failure::Write if printed == room => NO_ROOM,
+        _ => OUT_OF_MEMORY,
+    }
+}
+
 /// The text of a record as `det show` prints it, without reports; if `cycle` isn't 0, only that of
 /// this cycle. The answer is 0 for a whole record and 2 for one with a fault; then the first
-/// `written` bytes of `out` are the text of all that comes before the fault. It is 4 if `out` is too
-/// short or there is no memory.
+/// `written` bytes of `out` are the text of all that comes before the fault. It is 4 if `out` is
+/// too short, 5 if there is no memory.
 #[unsafe(no_mangle)]
 pub extern "C" fn page_text(
     alloc: Global,
@@ -149,9 +163,12 @@ pub extern "C" fn page_text(
         × (written.new ≡ length (text_of (form_of cycle) nobody bytes.now))
         × (out.new ≡ text_of (form_of cycle) nobody bytes.now
         ++ drop (length (text_of (form_of cycle) nobody bytes.now)) out.old) }
+    ensures room { result ≡ 4
+        → length out.old < length (text_of (form_of cycle) nobody bytes.now) }
+    ensures answers { (result ≡ 0) ⊎ ((result ≡ 2) ⊎ ((result ≡ 4) ⊎ (result ≡ 5))) }
 {
     let Ok(mut sink) = MemSink::new(alloc, out.len(), usize::MAX, FailList::new(alloc)) else {
-        return NO_ROOM;
+        return OUT_OF_MEMORY;
     };
     match print_record(alloc, bytes, form_of(cycle), &mut sink) {
         Ok(_) => {
@@ -167,7 +184,7 @@ pub extern "C" fn page_text(
             *fault = fault_of(0, found);
             FAULT
         }
-        Err(Stopped::Failed(_)) => NO_ROOM,
+        Err(Stopped::Failed(failure)) => failure_answer(failure, sink.bytes().len(), out.len()),
     }
 }
 

@@ -121,6 +121,9 @@ fn a_cycle_is_printed(rt: HostRuntime) -> Result<(), AllocError> {
     let answer = page_text(alloc, &RECORD, 2, &mut out, &mut written, &mut fault);
     assert!(rt; answer == 0);
     assert!(rt; out.get(..written) == Some("run 2 time -\nrefused pool 2 0 77\n".as_bytes()));
+    let mut short = [0; 32];
+    let answer = page_text(alloc, &RECORD, 2, &mut short, &mut written, &mut fault);
+    assert!(rt; answer == 4);
     Ok(())
 }
 
