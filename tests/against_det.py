@@ -192,7 +192,7 @@ class Against:
         wanted = named_after(job, run([self.det, *arguments], self.work))
         given = run([self.programs / job, *arguments], self.work)
         self.seen[str(arguments[0]), wanted.status] += 1
-        self.hints.update(kind_of(it) for it in wanted.err.splitlines()[1:])
+        self.hints.update(kind_of(it) for it in wanted.hints())
         if wanted != given and not (NO_FILE in arguments and is_without_hint(wanted, given)):
             kept = self.work / f"apart{len(self.apart)}"
             kept.mkdir()

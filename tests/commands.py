@@ -22,6 +22,10 @@ NOBODY = 65534
 Word = Union[str, bytes, int, Path]
 
 
+def is_hint(line: bytes) -> bool:
+    return line.startswith(b"  ")
+
+
 @dataclass(frozen=True)
 class Outcome:
     """How a command ended. A negative status is that of a signal."""
@@ -31,17 +35,22 @@ class Outcome:
     err: bytes
 
     def line(self) -> bytes:
-        """The first line on standard error. The lines after it are hints."""
-        return self.err.partition(b"\n")[0]
+        """The first line on standard error, or nothing if it is a hint, as with status 1."""
+        first = self.err.partition(b"\n")[0]
+        return b"" if is_hint(first) else first
 
     def last_line(self) -> bytes:
         """The last line on standard error. The lines of a lane's children stand before it."""
         return self.err.splitlines()[-1]
 
     def error_without_hints(self) -> bytes:
-        """Standard error without the lines after the first that begin with two spaces."""
+        """Standard error without the hints."""
         lines = self.err.splitlines(keepends=True)
-        return b"".join(lines[:1] + [it for it in lines[1:] if not it.startswith(b"  ")])
+        return b"".join(it for it in lines if not is_hint(it))
+
+    def hints(self) -> list[bytes]:
+        """The hints, without the ends of their lines."""
+        return [it for it in self.err.splitlines() if is_hint(it)]
 
     def is_like(self, other: Outcome) -> bool:
         """Whether both are the same but for hints."""

@@ -525,7 +525,9 @@ def with_byte(at: int, byte: int) -> bytes:
 def bad_record(
     shows: str, record: bytes, line: str, hint: str, words: str = "compare r q"
 ) -> HintCase:
-    return case(shows, words, 5, [f"bad record: {line}", hint], b"", {"r": WHOLE, "q": record})
+    """A command over a whole record r and a bad one q."""
+    err = [f"bad record: {line}", f"q: {hint}"]
+    return case(shows, words, 5, err, b"", {"r": WHOLE, "q": record})
 
 
 def second(offset: int, reason: str) -> str:
@@ -533,6 +535,9 @@ def second(offset: int, reason: str) -> str:
 
 
 FIRST_BYTE = "where frame 4 begins: a run or Terminate"
+# A name of 75 bytes, and how it is shown: its first 64, some of them as question marks.
+ODD = "a\u00e9\x07\n\t" + "x" * 69
+SHOWN_ODD = "a?????" + "x" * 58 + ".."
 RECORDS = [
     bad_record("no bytes", b"", second(0, "truncated"), "in the header"),
     bad_record("another magic", with_byte(5, 0), second(5, "magic"), "in the header"),
@@ -599,7 +604,7 @@ RECORDS = [
         "two copies torn in one frame",
         "compare p q",
         5,
-        ["bad record: copy 0 offset 300 truncated", "in frame 4, the run of cycle 2"],
+        ["bad record: copy 0 offset 300 truncated", "p: in frame 4, the run of cycle 2"],
         b"",
         {"p": WHOLE[:300], "q": WHOLE[:RUN_2_AT]},
     ),
@@ -607,7 +612,7 @@ RECORDS = [
         "two copies, the second torn before the first",
         "compare p q",
         5,
-        ["bad record: copy 1 offset 200 truncated", "in frame 3, the run of cycle 1"],
+        ["bad record: copy 1 offset 200 truncated", "q: in frame 3, the run of cycle 1"],
         b"",
         {"p": WHOLE[:300], "q": WHOLE[:200]},
     ),
@@ -628,6 +633,74 @@ RECORDS = [
         "parameter 0 of bank: channels, 1 to 65536",
         "check q",
     ),
+    case(
+        "a torn record that is shown",
+        "show q --reports",
+        5,
+        ["bad record: copy 0 offset 50 truncated", "q: in the header"],
+        files={"q": WHOLE[:50]},
+    ),
+    case(
+        "a record of nothing that is salvaged",
+        "salvage q",
+        5,
+        ["bad record: copy 0 offset 51 truncated", "q: where frame 0 begins: Register"],
+        files={"q": HEADER},
+    ),
+    case(
+        "a torn copy of an odd name",
+        [b"compare", b"r", ODD.encode(), b"q"],
+        5,
+        ["bad record: copy 1 offset 300 truncated", f"{SHOWN_ODD}: in frame 4, the run of cycle 2"],
+        files={"r": WHOLE, ODD: WHOLE[:300], "q": WHOLE[:300]},
+    ),
+    case(
+        "an odd name of a profile",
+        [b"check", ODD.encode()],
+        5,
+        ["bad record: profile", f"{SHOWN_ODD}: no job has the number 9"],
+        files={ODD: with_byte(9, 9)},
+    ),
+]
+
+
+def differs(
+    shows: str, words: str, out: bytes, names: list[str], files: dict[str, bytes], **streams: Any
+) -> HintCase:
+    """A case of status 1, with the names that its hints show."""
+    hints = "".join(f"  copy {number}: {name}\n" for number, name in enumerate(names))
+    outcome = Outcome(1, out, hints.encode())
+    return HintCase(shows, ["det", *words.split(" ")], outcome, files, **streams)
+
+
+# The last byte of the output of cycle 2 is 26 in place of 25.
+CHANGED = with_byte(END_AT - 1, 26)
+DEPARTS = b"departs output 2\ncount 2 0\ngap 10000000\nrefusal none\n"
+COPIES = {"r": WHOLE, "q": CHANGED}
+DIFFERS = b"differ copy 1 output 2\n"
+DIFFERENCES = [
+    differs(
+        "the last of three differs", "compare r r q", b"differ copy 2 output 2\n", [*"rrq"], COPIES
+    ),
+    differs("all but the first differ", "compare q r r", DIFFERS, [*"qrr"], COPIES),
+    differs("a changed output", "check q", DEPARTS, ["q"], COPIES),
+    differs("a changed output, for two workers", "check --workers 2 q", DEPARTS, ["q"], COPIES),
+    differs(
+        "copies of odd names",
+        f"compare q {ODD}",
+        DIFFERS,
+        ["q", SHOWN_ODD],
+        {"q": CHANGED, ODD: WHOLE},
+    ),
+    differs("a name of 64 bytes", "check " + "x" * 64, DEPARTS, ["x" * 64], {"x" * 64: CHANGED}),
+    differs(
+        "a name of 65 bytes", "check " + "x" * 65, DEPARTS, ["x" * 64 + ".."], {"x" * 65: CHANGED}
+    ),
+    differs("a copy in a pipe", "compare r p", DIFFERS, [*"rp"], COPIES, pipes={"p": CHANGED}),
+    differs("a record in a pipe", "check p", DEPARTS, ["p"], {}, pipes={"p": CHANGED}),
+    differs("no room for the names", "check q", DEPARTS, [], COPIES, err_to=To.FULL),
+    differs("no place for the names", "compare r q", DIFFERS, [], COPIES, err_to=To.CLOSED),
+    differs("an upgrade names nothing", "upgrade q", WHOLE[:RUN_2_AT], [], COPIES),
 ]
 
 SHOWN = report_text(Summary())
@@ -705,4 +778,5 @@ PIPES = [
     ),
 ]
 
-CASES = [*PIPES, *WORDS, *PLACES, *READS, *WRITES, *STIMULI, *MANIFESTS, *RECORDS, *TERMINALS]
+CASES = [*PIPES, *WORDS, *PLACES, *READS, *WRITES, *STIMULI, *MANIFESTS, *RECORDS, *DIFFERENCES]
+CASES += TERMINALS

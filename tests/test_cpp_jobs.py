@@ -12,6 +12,7 @@ import pytest
 from against_det import JOBS, Against
 from commands import TOP, difference
 from cpp_bench import EXAMPLES, CppBench, compile_example
+from hint_cases import ODD, SHOWN_ODD
 
 WORKERS = (1, 4, 16)
 SEED = 5
@@ -19,6 +20,7 @@ SEED = 5
 # place of numbers.
 RUNS, SEEDS = 1000, range(1, 6)
 HINTS = {b"  line 0", b"  wanted: stim 0", b"  wanted: cycle T, cycle -, sample E V or terminate"}
+HINTS |= {b"  copy 0: r.rec", b"  r.rec: in the header", b"  r.rec: in frame 0, the run of cycle 0"}
 
 
 def files(name: str, folder: Path = TOP / "examples") -> tuple[Path, Path]:
@@ -53,7 +55,7 @@ def test_same_verdict(job: str, cpp: CppBench) -> None:
         file = cpp.file("changed.rec", data)
         wanted = cpp.command([cpp.det, "check", file])
         given = cpp.command([program, "check", file, "--workers", WORKERS[number % 3]])
-        assert given.is_like(wanted), f"copy {number}: {given}, not {wanted}"
+        assert given == wanted, f"copy {number}: {given}, not {wanted}"
 
 
 @pytest.mark.slow
@@ -195,6 +197,30 @@ def test_hints_on_records(cpp: CppBench) -> None:
     for name in ("nosuch", "/"):
         wanted, given = (cpp.command([it, "check", name]) for it in (cpp.det, program))
         assert wanted.status == 6 and given == wanted, f"{given.err!r}, not {wanted.err!r}"
+
+
+def with_flipped(record: bytes, at: int, bits: int) -> bytes:
+    made = bytearray(record)
+    made[at] ^= bits
+    return bytes(made)
+
+
+@pytest.mark.parametrize("name, shown", [("odd.rec", "odd.rec"), (ODD, SHOWN_ODD)], ids=ascii)
+def test_names_in_hints(name: str, shown: str, cpp: CppBench) -> None:
+    """A hint on a record has its name as det shows it."""
+    program = cpp.example_program("cloud")
+    record = cpp.output_of([cpp.det, "record", *files("cloud")])
+    # The last byte of an output, the job's number, and the highest byte of the first parameter.
+    flipped = [with_flipped(record, *it) for it in ((-2, 1), (9, 8), (28, 1))]
+    statuses = []
+    for data in (record, record[:30], record[:-1], *flipped):
+        cpp.file(name, data)
+        for command in ("check", "replay"):
+            wanted, given = (cpp.command([it, command, name]) for it in (cpp.det, program))
+            assert given == wanted, f"{given.err!r}, not {wanted.err!r}"
+            assert (shown.encode() in given.err) == (given.status != 0), str(given)
+            statuses.append(given.status)
+    assert statuses == [0, 0, 5, 5, 5, 5, 1, 0, 5, 5, 5, 5]
 
 
 def test_help(cpp: CppBench) -> None:

@@ -139,8 +139,11 @@ def test_two_folders(bench: Bench) -> None:
         "5\truns/0003.rec other/0003.rec\tbad record: copy 0 offset 300 truncated",
         "6\truns/0002.rec other/0002.rec\tread fault",
     ]
-    hints = (bench.folder / "results").read_text().splitlines()[2].split("\t")[3]
-    assert hints.startswith("other/0002.rec: No such file"), hints
+    lines = (bench.folder / "results").read_text().splitlines()
+    genuine, differs, missing, torn = (line.split("\t")[3] for line in lines)
+    assert (genuine, differs) == ("", "")
+    assert missing.startswith("other/0002.rec: No such file"), missing
+    assert torn == "runs/0003.rec: in frame 4, the run of cycle 2"
 
 
 def task_names(bench: Bench, tasks: int) -> list[list[str]]:
@@ -257,5 +260,8 @@ def test_workflow_finds_a_difference(bench: Bench) -> None:
     Path(bench.file("det", text)).chmod(0o755)
     path = f"{bench.folder}:{bench.programs.environment()['PATH']}"
     given = shell(bench, command_of_workflow(), PATH=path)
-    assert given.status == 1 and given.out.endswith(b"differ copy 1 header\n"), str(given)
+    names = (f"out/records/workers-{workers}.rec" for workers in (1, 2, 4, 8))
+    hints = "".join(f"  copy {copy}: {name}\n" for copy, name in enumerate(names))
+    end = f"differ copy 1 header\n{hints}"
+    assert given.status == 1 and given.out.decode().endswith(end), str(given)
     assert len(list((bench.folder / "out" / "records").glob("*.rec"))) == 4

@@ -8,7 +8,7 @@ set -u
 said=$(det "$@" 2>&1)
 status=$?
 line=${said%%$'\n'*} hints=
-# With 0 and 1 the verdict is first, and reports follow.
+# With 0 and 1 the verdict is first. Reports follow, and hints that only name the records.
 if [ "$status" -gt 1 ] && [ "$line" != "$said" ]; then
     hints=${said#*$'\n'  }
     hints=${hints//$'\n' /;}

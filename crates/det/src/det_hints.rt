@@ -1,11 +1,11 @@
 //! Hints of `det`, written after the answer's line.
-use cli_words::read_words;
+use cli_words::{CommandWord, read_words};
 use det_cli::{Answer, Status};
 use det_io::{DirShelf, Sink, write_all};
 use hints_on_files::command_hint;
 use hints_on_words::{
-    can_reread, help_for, words_fault, write_hint, write_input_hint, write_output_hint,
-    write_words_hint,
+    can_reread, help_for, words_fault, write_copy_names, write_hint, write_input_hint,
+    write_named_hint, write_output_hint, write_words_hint,
 };
 use std::alloc::Global;
 use std::io::Error;
@@ -38,7 +38,17 @@ fn hint_on_read<E: Sink>(
     write_input_hint(alloc, command.names.as_slice(), failed, err);
 }
 
-/// Writes the hint on a file that was refused.
+/// Writes the names of the records in which `compare` or `check` found a difference.
+fn hint_on_difference<E: Sink>(alloc: Global, words: &[String], err: &mut E) {
+    let Some(command) = read_words(words) else {
+        return;
+    };
+    if let CommandWord::Compare | CommandWord::Check = command.word {
+        write_copy_names(alloc, command.names.as_slice(), err);
+    }
+}
+
+/// Writes the hint on a file that was refused. The hint on a record begins with its name.
 fn hint_on_file<E: Sink>(rt: &HostRuntime, words: &[String], status: Status, err: &mut E) {
     let alloc = rt.alloc();
     let Some(command) = read_words(words) else {
@@ -48,13 +58,18 @@ fn hint_on_file<E: Sink>(rt: &HostRuntime, words: &[String], status: Status, err
         return;
     }
     let mut shelf = DirShelf::new(rt, alloc);
-    if let Some(hint) = command_hint(alloc, &command, status, &mut shelf) {
-        write_hint(alloc, hint, err);
-    }
+    let Some(found) = command_hint(alloc, &command, status, &mut shelf) else {
+        return;
+    };
+    match found.copy {
+        Some(copy) => write_named_hint(alloc, command.name(copy), found.hint, err),
+        None => write_hint(alloc, found.hint, err),
+    };
 }
 
-/// Writes the hints on a status whose line was written. They say why the arguments are no command,
-/// why the system failed, or what is wrong with a file, which is read once more.
+/// Writes the hints on a status whose line was written. They say in which records there is a
+/// difference, why the arguments are no command, why the system failed, or what is wrong with a
+/// file, which is read once more.
 ///
 /// `unread` is the slot that failed, with its error, and `failed` the error of standard output.
 pub(crate) fn write_hints<E: Sink>(
@@ -67,6 +82,7 @@ pub(crate) fn write_hints<E: Sink>(
 ) {
     let alloc = rt.alloc();
     match status {
+        Status::Differs => hint_on_difference(alloc, words, err),
         Status::BadWords => hint_on_words(rt, words, err),
         Status::ReadFault => hint_on_read(alloc, words, unread, err),
         Status::WriteFault => write_output_hint(alloc, failed, err),

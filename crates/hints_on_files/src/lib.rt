@@ -11,7 +11,7 @@ mod parameters;
 mod records;
 mod stimuli;
 
-pub use command_files::command_hint;
+pub use command_files::{FileHint, command_hint};
 pub use hint::Hint;
 pub use manifests::{manifest_events, manifest_hint};
 pub use parameters::{ParameterRange, parameter_hint};

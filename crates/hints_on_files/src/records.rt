@@ -1,5 +1,5 @@
 //! Hints on records.
-ghost use Rattle.std.specs.Prelude.{◌≡◌, true, IfSome};
+ghost use Rattle.std.specs.Prelude.{◌≡◌, ◌<◌, length, true, IfSome};
 ghost use Rattle.hints_on_files.specs.Kinds.{is_of_record};
 
 use crate::hint::Hint;
@@ -53,17 +53,19 @@ fn fault_hint<S: Shelf>(alloc: Global, name: &str, shelf: &mut S) -> Option<(u32
     None
 }
 
-/// The hint on the fault with the fewest items before it. Of equal ones, the first record's counts.
-pub fn copies_hint<S: Shelf>(alloc: Global, names: &[&str], shelf: &mut S) -> Option<Hint>
-    ensures { IfSome result (λ hint. is_of_record hint ≡ true) }
+/// The hint on the fault with the fewest items before it, and which of the records has it, counted
+/// from 0. Of equal ones, the first record's counts.
+pub fn copies_hint<S: Shelf>(alloc: Global, names: &[&str], shelf: &mut S) -> Option<(usize, Hint)>
+    ensures kind { IfSome result (λ found. is_of_record found.1 ≡ true) }
+    ensures copy { IfSome result (λ found. found.0 < length names.now) }
 {
     let mut least = MOST_ITEMS;
     let mut first = None;
-    for name in names {
-        if let Some((items, hint)) = fault_hint(alloc, *name, shelf) {
+    for copy in 0..names.len() {
+        if let Some((items, hint)) = fault_hint(alloc, names[copy], shelf) {
             if items < least {
                 least = items;
-                first = Some(hint);
+                first = Some((copy, hint));
             }
         }
     }
@@ -75,7 +77,7 @@ pub fn run_hint<S: Shelf>(alloc: Global, name: &str, shelf: &mut S) -> Option<Hi
     ensures { IfSome result (λ hint. is_of_record hint ≡ true) }
 {
     match header_hint(alloc, name, shelf) {
-        None => copies_hint(alloc, &[name], shelf),
+        None => Some(fault_hint(alloc, name, shelf)?.1),
         hint => hint,
     }
 }

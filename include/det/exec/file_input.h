@@ -37,6 +37,8 @@ class FileInput {
     return descriptor_ < 0 ? Outcome::ReadFault(name_, errno) : Outcome();
   }
 
+  /// The name it was opened by.
+  char const* Name() const noexcept { return name_; }
   /// The bytes, never null after `Open`. They stay where they are until the next `ReadMore`.
   std::uint8_t const* Bytes() const noexcept { return room_.data() + begin_; }
   std::size_t Count() const noexcept { return end_ - begin_; }

@@ -42,7 +42,13 @@ class Outcome {
   /// A file that can't be opened or read. `error` is the system's.
   static Outcome ReadFault(char const* name, int error) noexcept {
     Outcome outcome = OfStatus(DET_STATUS_READ_FAULT);
-    return outcome.Add("  ").AddExcerpt(name).Add(": ").Add(std::strerror(error)).Add("\n");
+    return outcome.AddHintOn(name).Add(std::strerror(error)).Add("\n");
+  }
+
+  /// A record that isn't what its inputs give. A hint has its name.
+  static Outcome Differs(char const* name) noexcept {
+    Outcome outcome = OfStatus(DET_STATUS_DIFFERS);
+    return outcome.Add("  copy 0: ").AddExcerpt(name).Add("\n");
   }
 
   /// A standard output that can't be written. There is no hint if the other end of a pipe is
@@ -106,6 +112,9 @@ class Outcome {
     }
     return length > kMost ? Add("..") : *this;
   }
+
+  /// Begins the line of a hint on a file. Its text and a line feed are to follow.
+  Outcome& AddHintOn(char const* name) noexcept { return Add("  ").AddExcerpt(name).Add(": "); }
 
  private:
   std::uint8_t status_ = DET_STATUS_DONE;

@@ -109,7 +109,7 @@ class Program {
       if (!outcome.IsDone()) break;
       if (is_end) {
         std::uint32_t const cycles = engine.Cycles();
-        return Report(DET_STATUS_DONE, reports,
+        return Report(Outcome(), reports,
                       [cycles](DetText& text) { det_text_genuine(cycles, &text); });
       }
       det_reports_see(&reports, &frame);
@@ -119,7 +119,7 @@ class Program {
         if (!outcome.IsDone()) break;
       }
       if (auto const place = part.DifferenceFrom(record, frame, setup.Header(), number)) {
-        return Report(DET_STATUS_DIFFERS, reports,
+        return Report(Outcome::Differs(arguments.names[0]), reports,
                       [&place](DetText& text) { det_text_departs(&*place, &text); });
       }
     }
@@ -250,9 +250,9 @@ class Program {
     return OutcomeOf(engine, done);
   }
 
-  /// Prints a verdict and the reports.
+  /// Prints a verdict and the reports. The outcome is the given one, or a write fault.
   template <typename Text>
-  Outcome Report(std::uint8_t status, DetReports const& reports,
+  Outcome Report(Outcome const& outcome, DetReports const& reports,
                  Text const& verdict) const noexcept {
     DetText line, lines;
     verdict(line);
@@ -260,8 +260,7 @@ class Program {
     BufferedSink sink(options_.out);
     bool const is_written = sink.Write(line.bytes, line.len) &&
                             sink.Write(lines.bytes, lines.len) && sink.Finish();
-    if (!is_written) return Outcome::WriteFault(sink.Error());
-    return Outcome::OfStatus(status);
+    return is_written ? outcome : Outcome::WriteFault(sink.Error());
   }
 
   ProgramOptions options_;

@@ -30,6 +30,7 @@ class RecordReader {
  public:
   RecordReader() noexcept { det_reading_new(&reading_); }
 
+  /// Opens a record. The name has to live as long as the reader.
   Outcome Open(char const* name) noexcept { return file_.Open(name); }
 
   /// Reads the header. It is called once, before the first frame.
@@ -103,16 +104,17 @@ class RecordReader {
                     [&fault](DetText& text) { det_text_bad_record(0, &fault, &text); });
     bool const is_at_begin = fault.offset <= reading_.offset;
     std::uint8_t const stage = reading_.record.stage;
-    if (stage == kBeforeHeader) return outcome.Add("  in the header\n");
+    outcome.AddHintOn(file_.Name());
+    if (stage == kBeforeHeader) return outcome.Add("in the header\n");
     if (stage > kInCycles) {
-      return outcome.Add("  behind frame ").AddNumber(frames_ - 1).Add(", Terminate\n");
+      return outcome.Add("behind frame ").AddNumber(frames_ - 1).Add(", Terminate\n");
     }
     if (stage < kBeforeInit || is_at_begin) {
       constexpr char const* kAllowed[] = {"Register", "Discover", "Init", "a run or Terminate"};
-      outcome.Add("  where frame ").AddNumber(frames_).Add(" begins: ");
+      outcome.Add("where frame ").AddNumber(frames_).Add(" begins: ");
       return outcome.Add(kAllowed[stage - 1]).Add("\n");
     }
-    outcome.Add("  in frame ").AddNumber(frames_);
+    outcome.Add("in frame ").AddNumber(frames_);
     if (stage == kBeforeInit) return outcome.Add(", Init\n");
     return outcome.Add(", the run of cycle ").AddNumber(frames_ - 2).Add("\n");
   }

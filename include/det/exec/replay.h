@@ -70,7 +70,8 @@ class RecordedSource final : public LiveSource {
 /// recorder is one of the record's format.
 class CheckingSink final : public RecordSink {
  public:
-  /// Opens the record. Takes memory, as RecordedSource does.
+  /// Opens the record. Takes memory, as RecordedSource does. The name has to live as long as the
+  /// sink.
   Outcome Open(char const* name) noexcept {
     header_.reset(new (std::nothrow) DetHeader{});
     if (!header_) return Outcome::OfStatus(DET_STATUS_OUT_OF_MEMORY);

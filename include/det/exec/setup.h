@@ -42,11 +42,12 @@ class Setup {
       DetManifestFault fault{};
       fault.reason = DET_MANIFEST_BAD_PARAMETER;
       fault.number = static_cast<std::uint16_t>(bad.number);
-      return BadManifest(fault, J::kName);
+      return BadManifest(fault, J::kName).Add("  ");
     });
   }
 
-  /// Opens a record and reads its header. The reader is at its first frame then.
+  /// Opens a record and reads its header. The reader is at its first frame then. The name has to
+  /// live as long as the reader.
   Outcome FromRecord(char const* name, RecordReader& record) noexcept {
     header_.reset(new (std::nothrow) DetHeader{});
     if (!header_) return Outcome::OfStatus(DET_STATUS_OUT_OF_MEMORY);
@@ -54,11 +55,11 @@ class Setup {
     if (outcome.IsDone()) outcome = record.Header(*header_);
     if (!outcome.IsDone()) return outcome;
     if (header_->profile.job != J::kNumber) {
-      outcome = BadProfile();
-      outcome.Add("  no job has the number ").AddNumber(header_->profile.job);
+      outcome = BadProfile(name);
+      outcome.Add("no job has the number ").AddNumber(header_->profile.job);
       return outcome.Add("\n");
     }
-    return MakeJob([](Parameters::BadParameter const&) { return BadProfile(); });
+    return MakeJob([name](Parameters::BadParameter const&) { return BadProfile(name); });
   }
 
   DetManifest const& Manifest() const noexcept { return *manifest_; }
@@ -74,8 +75,11 @@ class Setup {
     return BadManifest(fault, J::kName);
   }
 
-  static Outcome BadProfile() noexcept {
-    return Outcome::Of(DET_STATUS_BAD_RECORD, [](DetText& text) { det_text_bad_profile(&text); });
+  /// The line on a record whose profile isn't taken, and the beginning of a hint.
+  static Outcome BadProfile(char const* name) noexcept {
+    Outcome outcome =
+        Outcome::Of(DET_STATUS_BAD_RECORD, [](DetText& text) { det_text_bad_profile(&text); });
+    return outcome.AddHintOn(name);
   }
 
   static J JobOf(Parameters& params) {
@@ -87,7 +91,8 @@ class Setup {
     }
   }
 
-  /// Makes the job of the header's parameters. `refuse` gives the line for a bad one.
+  /// Makes the job of the header's parameters. `refuse` gives the line for a bad one, and the
+  /// beginning of a hint.
   template <typename Refuse>
   Outcome MakeJob(Refuse const& refuse) noexcept {
     Parameters params({header_->params, header_->param_count}, header_->event_count);
@@ -96,15 +101,16 @@ class Setup {
       return Outcome::JobFault(0, DeterministicError{DeterministicErrc::kApplicationThrew});
     }
     auto const bad = params.Bad();
-    return bad ? WithHint(refuse(*bad), *bad) : Outcome();
+    return bad ? WithRange(refuse(*bad), *bad) : Outcome();
   }
 
-  static Outcome WithHint(Outcome outcome, Parameters::BadParameter const& bad) noexcept {
+  /// Ends a hint by what the job takes in place of a bad parameter.
+  static Outcome WithRange(Outcome outcome, Parameters::BadParameter const& bad) noexcept {
     auto const number = static_cast<std::int64_t>(bad.number);
     if (bad.name == nullptr) {
-      return outcome.Add("  ").Add(J::kName).Add(" has ").AddNumber(number).Add(" parameters\n");
+      return outcome.Add(J::kName).Add(" has ").AddNumber(number).Add(" parameters\n");
     }
-    outcome.Add("  parameter ").AddNumber(number).Add(" of ").Add(J::kName).Add(": ").Add(bad.name);
+    outcome.Add("parameter ").AddNumber(number).Add(" of ").Add(J::kName).Add(": ").Add(bad.name);
     outcome.Add(", ").AddNumber(bad.least).Add(" to ").AddNumber(bad.most);
     return outcome.Add("\n");
   }
