@@ -20,8 +20,6 @@ use Rattle.manifest.specs.Profiles.{profile_of}
 use Rattle.run_setup.specs.Setup.{setup_of}
 use Rattle.cmd_run.specs.record_command.Outcomes.{demo_profile, demo_outcome, record_outcome}
 use Rattle.probes.specs.Reports.{AudienceState}
-use Rattle.record_text.specs.declared.show_part.ShowPart.TheVariants.{All}
-use Rattle.cmd_records.specs.declared.record_show.show_form.Notation.TheVariants.{Lines}
 use Rattle.cmd_records.specs.declared.record_show.show_form.ShowForm.{ShowForm}
 use Rattle.cmd_records.specs.record_show.Text.{text_from}
 use Rattle.cli_answers.specs.Outcome.{Outcome}
@@ -77,24 +75,21 @@ RecordIsRead = OfRecord IsRecordRead
 abbrev pub DemoIsRead : Type 0
 DemoIsRead = OfDemo IsRecordRead
 
--- all of a record, in lines
-abbrev pub in_lines : ShowForm
-in_lines = record { part = All; notation = Lines }
-
--- What `show` gives for the record of a run: the lines of its profile and of its frames. If the run
--- ended, what an audience reports of its cycles comes after them.
-abbrev pub shown_of : AudienceState → ProfileValue → List Frame → Option RecordFault → Outcome
-shown_of audience profile run end = record {
+-- What `show` gives for the record of a run: the lines of its profile and of its frames, or those of
+-- a part. If the run ended, what an audience reports of its cycles comes after them.
+abbrev pub shown_of : ShowForm → AudienceState → ProfileValue → List Frame → Option RecordFault
+    → Outcome
+shown_of form audience profile run end = record {
   answer = by_fault end;
-  bytes = text_from in_lines audience (items_of profile run) end;
+  bytes = text_from form audience (items_of profile run) end;
 }
 
 -- the same for the run over the blocks of a stimulus
 abbrev pub IsRecordShown : RecordLaw
 IsRecordShown profile run stimulus bytes =
     let ended : Bool = is_terminated (ending (length profile.events) stimulus) in
-    (audience : AudienceState) → show_outcome in_lines audience bytes
-    ≡ shown_of audience profile (run (blocks (length profile.events) stimulus) ended)
+    (form : ShowForm) (audience : AudienceState) → show_outcome form audience bytes
+    ≡ shown_of form audience profile (run (blocks (length profile.events) stimulus) ended)
     (fault_if ended bytes)
 
 -- what `show` gives for what `record` writes, if the manifest is accepted
