@@ -1,12 +1,16 @@
-use Rattle.std.proofs.Common.{[], ◌∷◌, true, false, refl, sym, ap, ◌∙◌, inl, inr, arith}
+use Rattle.std.proofs.Common.{[], ◌∷◌, true, false, refl, sym, ap, subst, ◌∙◌, inl, inr, arith}
 use Rattle.std.specs.Prelude.{Some, None}
+use Rattle.det_io.specs.Traffic.{sink_run}
 use Rattle.det_io.proofs.Opening.{asks-all, asks-prefix-none}
+use Rattle.record_grammar.specs.Record.{items as items_in}
+use Rattle.cli_answers.specs.BreaksOff.{BreaksOff}
 use Rattle.cli_answers.specs.Ends.{reads_nothing, reads_records}
 use Rattle.cli_answers.proofs.Keeping.{keeps-same}
 use Rattle.cli_answers.proofs.AnswerMeets.{meets-under}
 use Rattle.cli_words.specs.declared.table.CommandWord.TheVariants as words
 use Rattle.cli_words.specs.Command.{command_value}
 use Rattle.cmd_records.specs.declared.record_show.show_form.ShowForm.{ShowForm}
+use Rattle.cmd_records.specs.record_show.Text.{lines_of}
 use Rattle.det_cli.proofs.Helping.{help-there}
 use Rattle.det_cli.proofs.Joining.{same-command, sole-name, no-name, workers-fit, is-kept, is-gone, no-difference, help-is}
 use Rattle.det_cli.proofs.Joining.{runs-command, reported-runs}
@@ -33,7 +37,9 @@ returns-in-Show g c =
     runs-command (g.S.Slots.sees c.args.shelf.now) _ _ _ _ _ seen _ (same-command seen words.Show names c.in-Show.is is)
     (record {
       meets = rw (← form) c.show.ensures.meets;
-      broken = rw (← form) (λ t e. c.show.ensures.broken e t);
+      broken = λ t e. subst (λ (f : ShowForm). BreaksOff (g.S.Slots.sees c.args.shelf.now) (g.S.Slots.sees c.show.new.shelf)
+          c.name-first.result.now (λ read. lines_of f (items_in read))
+          (sink_run g.K.Sink.took g.K.Sink.faults c.args.out.now c.show.new.out)) form (c.show.ensures.broken e t);
       ends = c.show.ensures.ends;
       asked = c.show.ensures.asked;
       needed = λ t. c.show.ensures.asked;

@@ -14,5 +14,5 @@ returns c =
     let shelf = shelf_run (λ shelf. lent_state (rests_of shelf)) (λ before after. Unit {0}) lent s.new.shelf in
     let known = ap (λ (rests : List (List ℕ)). slice_get rests slot) c.in_ok-shelf.ensures
     ∙ ap (λ (n : ℕ). slice_get (c.args.bytes.now ∷ []) n) c.new-reader.ensures.slot in
-    is-printed c.args.part c.args.sink.now s.new.sink c.requires c.args.bytes.now s.result shelf slot _ _ known (search rules)
+    is-printed c.args.form c.args.sink.now s.new.sink c.requires c.args.bytes.now s.result shelf slot _ _ known (search rules)
     s.ensures.run.1.answers
