@@ -1,5 +1,5 @@
 -- Which of the records of a command a hint is on.
-use Rattle.std.specs.Prelude.{ℕ, ◌<◌, Option, None, Some}
+use Rattle.std.specs.Prelude.{ℕ, ◌<◌, Option, None, Some, ⊤}
 use Rattle.cli_answers.specs.declared.status.Status.{Status}
 use Rattle.cli_answers.specs.declared.status.Status.TheVariants.{BadRecord}
 

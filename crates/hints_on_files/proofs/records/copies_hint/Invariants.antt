@@ -5,4 +5,4 @@ use Rattle.hints_on_files.proofs.records.copies_hint.Given as goal
 abbrev pub invariant-loop-copy : goal.invariant-loop-copy
 invariant-loop-copy g l =
     IfSome l.first (λ found. is_of_record found.1 ≡ true)
-    × IfSome l.first (λ found. found.0 < length g.names.now)
+    × IfSome l.first (λ found. found.0 < length l.names)
