@@ -5,7 +5,8 @@
     .. --to FOLDER                                    into another folder
     .. --programs FOLDER --library ARCHIVE            of other builds
 
-The package `det` has the programs, the tools of records, manual pages, completions, documents and
+The package `det` has the programs, the tools of records, the page if `make page` built it, manual
+pages, completions, documents and
 examples. `libdeterministic-client-dev` has the library, its headers and the files for CMake and
 pkg-config. Both hold what `make install` installs, without the list for `make uninstall`. Symbols
 that only a debugger reads are stripped from programs and library; code stays as it was built.
@@ -166,7 +167,7 @@ def needed_libraries(programs: Sequence[Copy]) -> str:
 def program_package(given: argparse.Namespace, when: int) -> Package:
     programs = [fitted(it) for it in install.programs(given.programs)]
     others = [*install.manuals(PLACES), *install.completions(), *install.tools("/usr")]
-    others += [*install.documents(), *papers("det", when)]
+    others += [*install.page(), *install.documents(), *papers("det", when)]
     fields = {
         "Section": "utils",
         "Depends": f"{needed_libraries(programs)}, python3 (>= 3.9)",
