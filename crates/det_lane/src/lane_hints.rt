@@ -1,10 +1,13 @@
 //! Hints of `det_lane`, written after the answer's line.
 use det_io::Sink;
 use hints_on_words::{
-    Help, WordsFault, misplaced_word, write_hint, write_output_hint, write_words_hint,
+    Help, WordsFault, misplaced_word, write_hint, write_input_hint, write_output_hint,
+    write_words_hint,
 };
+use lane::child_processes::ChildFault;
 use lane::{LaneStatus, limit_of};
 use std::io::Error;
+use std::process::ExitStatus;
 
 /// Its arguments, by their names in the usage.
 const PLACES: [&str; 4] = ["PROGRAM", "COPIES", "MANIFEST", "STIM"];
@@ -45,9 +48,16 @@ fn hint_on_words<E: Sink>(rt: &HostRuntime, words: &[String], err: &mut E) {
     write_words_hint(rt, rt.alloc(), words_fault(words), help, err);
 }
 
-/// Writes which child wrote nothing for as long as `--timeout` says, if one did.
-fn hint_on_time<E: Sink>(rt: &HostRuntime, words: &[String], late: Option<u32>, err: &mut E) {
-    let (Some(child), Some(seconds)) = (late, limit_of(words)) else {
+/// Writes why the program couldn't be started.
+fn hint_on_start<E: Sink>(rt: &HostRuntime, words: &[String], error: Error, err: &mut E) {
+    if let Some(program) = words.first() {
+        write_input_hint(rt.alloc(), &[program.as_str()], Some((0, error)), err);
+    }
+}
+
+/// Writes which child wrote nothing for as long as `--timeout` says.
+fn hint_on_time<E: Sink>(rt: &HostRuntime, words: &[String], child: u32, err: &mut E) {
+    let Some(seconds) = limit_of(words) else {
         return;
     };
     let alloc = rt.alloc();
@@ -56,17 +66,34 @@ fn hint_on_time<E: Sink>(rt: &HostRuntime, words: &[String], late: Option<u32>, 
     }
 }
 
+/// Writes how a child ended that has no number as its exit status.
+fn hint_on_end<E: Sink>(rt: &HostRuntime, child: u32, status: ExitStatus, err: &mut E) {
+    let alloc = rt.alloc();
+    if let Ok(hint) = format!(in alloc; "child {child} ended with {status}") {
+        write_hint(alloc, hint, err);
+    }
+}
+
+/// Writes what the system told of a child that failed.
+fn hint_on_child<E: Sink>(rt: &HostRuntime, words: &[String], fault: ChildFault, err: &mut E) {
+    match fault {
+        ChildFault::NotStarted(error) => hint_on_start(rt, words, error, err),
+        ChildFault::Late(child) => hint_on_time(rt, words, child, err),
+        ChildFault::NoNumber(child, status) => hint_on_end(rt, child, status, err),
+    }
+}
+
 /// What a run of a lane found out besides its status.
 #[derive(Drop)]
 pub(crate) struct Reasons {
     /// Why standard output failed.
     pub failed: Option<Error>,
-    /// The child that wrote nothing for too long.
-    pub late: Option<u32>,
+    /// What went wrong with a child.
+    pub fault: Option<ChildFault>,
 }
 
 /// Writes the hints on a status whose line was written: why the arguments are no lane, the system's
-/// reason for a failed write, or for which child the time was up.
+/// reason for a failed write, or what it told of a child.
 pub(crate) fn write_hints<E: Sink>(
     rt: &HostRuntime,
     words: &[String],
@@ -77,7 +104,11 @@ pub(crate) fn write_hints<E: Sink>(
     match status {
         LaneStatus::BadWords => hint_on_words(rt, words, err),
         LaneStatus::WriteFault => write_output_hint(rt.alloc(), reasons.failed, err),
-        LaneStatus::SpawnFault => hint_on_time(rt, words, reasons.late, err),
+        LaneStatus::SpawnFault => {
+            if let Some(fault) = reasons.fault {
+                hint_on_child(rt, words, fault, err);
+            }
+        }
         _ => {}
     }
 }

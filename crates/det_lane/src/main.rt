@@ -26,7 +26,7 @@ fn main(rt: HostRuntime) -> ExitCode {
     if err.failed().is_none() {
         let reasons = Reasons {
             failed: out.failed(),
-            late: children.spawner.late(),
+            fault: children.spawner.take_fault(),
         };
         write_hints(&rt, &words, status, reasons, &mut err);
     }

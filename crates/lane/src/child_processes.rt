@@ -2,8 +2,10 @@
 //!
 //! `Spawner` is the trait of what starts children, `ProcessSpawner` starts real ones, and
 //! `MemSpawner` replays scripts in tests. `ErrorLine` makes lines of what a child writes to its
-//! standard error. `ChildGuard` ends real children if a signal ends this process.
+//! standard error. `ChildGuard` ends real children if a signal ends this process, and `ChildFault` is
+//! what the system told of one that failed.
 
+mod child_fault;
 mod child_guard;
 mod child_shelf;
 mod error_line;
@@ -13,6 +15,7 @@ mod process_spawner;
 mod spawn_failed;
 mod spawner;
 
+pub use child_fault::ChildFault;
 pub use child_shelf::ChildShelf;
 pub use error_line::ErrorLine;
 pub use mem_spawner::{MemSpawner, Script, Scripts};

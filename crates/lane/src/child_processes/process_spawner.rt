@@ -2,6 +2,7 @@
 ghost use Rattle.std.specs.Prelude.{◌≡◌, ◌<◌, ◌≤◌, length, vec_len, pos, Some, IfOk};
 ghost use Rattle.lane.specs.child_processes.Processes.{code_of};
 
+use crate::child_processes::child_fault::ChildFault;
 use crate::child_processes::child_guard::ChildGuard;
 use crate::child_processes::error_pipes::{ErrorPipes, WaitFault};
 use crate::child_processes::{SpawnFailed, Spawner};
@@ -9,7 +10,7 @@ use det_io::{push_within, read_with_retries};
 use std::alloc::Global;
 use std::io::{self, BufReader};
 use std::os::fd::AsRawFd;
-use std::process::{Child, ChildStdout, Command, Processes, Stdio, SystemProcess};
+use std::process::{Child, ChildStdout, Command, ExitStatus, Processes, Stdio, SystemProcess};
 use std::rt::{Clock, Stderr};
 
 /// How many bytes of a child's output are read at once, at most: as many as a Linux pipe holds. The
@@ -46,8 +47,8 @@ pub struct ProcessSpawner<R: Processes<Started = SystemProcess>> {
     alloc: Global,
     // The most seconds to wait for a child that writes nothing, or no limit.
     limit: Option<u32>,
-    // The last child for which that time was up.
-    late: Option<u32>,
+    // What went wrong first with a child.
+    fault: Option<ChildFault>,
     children: Vec<Child<SystemProcess>>,
     // The outputs of the children. A child that was given to `finish` has none.
     outputs: Vec<Option<Output>>,
@@ -81,7 +82,7 @@ impl<R: Processes<Started = SystemProcess> + Copy> ProcessSpawner<R> {
             rt: *rt,
             alloc,
             limit,
-            late: None,
+            fault: None,
             children: Vec::new(alloc),
             outputs: Vec::new(alloc),
             errors: ErrorPipes::new(alloc, err),
@@ -103,9 +104,9 @@ impl<R: Processes<Started = SystemProcess>> ProcessSpawner<R> {
     ghost use Rattle.lane.specs.child_processes.ProcessSpawner.{process_state, finished_of};
     ghost use Rattle.lane.specs.child_processes.ProcessSpawner.{lost_of, HasRoom};
 
-    /// The last child that wrote nothing for as long as the limit.
-    pub fn late(&self) -> Option<u32> {
-        self.late
+    /// What went wrong first with a child that wasn't stopped here. None after a read that failed.
+    pub fn take_fault(&mut self) -> Option<ChildFault> {
+        self.fault.take()
     }
 
     // Adds a child that was started.
@@ -137,7 +138,13 @@ impl<R: Processes<Started = SystemProcess>> ProcessSpawner<R> {
         self.finished.reserve(1).ok()?;
         self.lost.reserve(1).ok()?;
         self.errors.make_room(number).ok()?;
-        let mut child = spawn_child(&self.rt, self.alloc, words).ok()?;
+        let mut child = match spawn_child(&self.rt, self.alloc, words) {
+            Ok(child) => child,
+            Err(error) => {
+                self.fault = Some(ChildFault::NotStarted(error));
+                return None;
+            }
+        };
         let Some(output) = child_output(self.alloc, &mut child) else {
             let _ = child.kill();
             let _ = child.wait();
@@ -186,7 +193,7 @@ impl<R: Processes<Started = SystemProcess> + Clock + Copy> Spawner for ProcessSp
             return Ok(0);
         }
         let waited = await_output(&self.rt, &mut self.errors, &self.outputs[index], self.limit);
-        self.late = late_child(waited, child).or(self.late);
+        self.fault = self.fault.take().or(late_fault(waited, child));
         let moved = match waited {
             Ok(()) => read_child_output(&mut self.outputs[index], buf),
             Err(_) => Err(SpawnFailed),
@@ -215,14 +222,18 @@ impl<R: Processes<Started = SystemProcess> + Clock + Copy> Spawner for ProcessSp
         let waited = self
             .errors
             .await_end(&self.rt, &mut self.children[index], self.limit);
-        self.late = late_child(waited, child).or(self.late);
+        self.fault = self.fault.take().or(late_fault(waited, child));
         let is_read = self.errors.finish(index).is_ok() && waited != Err(WaitFault::Failed);
         // Only now, so that a process of the child that goes on doesn't complain of it above.
         self.outputs[index] = None;
-        let status = end_of_child(&mut self.children[index], is_read);
+        let ended = end_of_child(&mut self.children[index], is_read);
+        if let (Err(Some(status)), true) = (ended, self.at_end[index]) {
+            let fault = ChildFault::NoNumber(child, status);
+            self.fault = self.fault.take().or(Some(fault));
+        }
         self.guard.remove(self.children[index].id());
-        self.lost[index] = status.is_err();
-        status
+        self.lost[index] = ended.is_err();
+        ended.map_err(|_| SpawnFailed)
     }
 }
 
@@ -265,10 +276,10 @@ fn await_output<R: Clock>(
     }
 }
 
-// The child for which the time was up.
-fn late_child(waited: Result<(), WaitFault>, child: u32) -> Option<u32> {
+// The fault of a child for which the time was up.
+fn late_fault(waited: Result<(), WaitFault>, child: u32) -> Option<ChildFault> {
     match waited {
-        Err(WaitFault::Late) => Some(child),
+        Err(WaitFault::Late) => Some(ChildFault::Late(child)),
         _ => None,
     }
 }
@@ -283,15 +294,15 @@ fn read_child_output(output: &mut Option<Output>, buf: &mut [u8]) -> Result<usiz
     }
 }
 
-// The exit status of a child that has ended, or was killed. A failure if its standard error wasn't
-// read.
-fn end_of_child(child: &mut Child<SystemProcess>, is_read: bool) -> Result<u8, SpawnFailed>
+// The number with which a child ended, or was killed. A failure if its standard error wasn't read,
+// or if it ended with no number, with what it has in its place.
+fn end_of_child(child: &mut Child<SystemProcess>, is_read: bool) -> Result<u8, Option<ExitStatus>>
     ensures { IfOk result (λ status. code_of child.new ≡ Some (pos status)) }
 {
-    let status = child.wait().map_err(|_| SpawnFailed)?;
+    let status = child.wait().map_err(|_| None)?;
     if !is_read {
-        return Err(SpawnFailed);
+        return Err(None);
     }
-    let code = status.code().ok_or(SpawnFailed)?;
-    u8::try_from(code).map_err(|_| SpawnFailed)
+    let code = status.code().ok_or(Some(status))?;
+    u8::try_from(code).map_err(|_| None)
 }
