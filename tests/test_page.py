@@ -237,24 +237,3 @@ def test_records_that_are_embedded(
     shown = browser.value(SHOWN)
     assert shown["verdict"] == f"bad record: copy 1 offset {len(data) - 1} truncated"
     assert [row[1] for row in shown["copies"]] == ["a <b>.rec", "torn.rec"]
-
-
-@pytest.mark.parametrize("count", (0, 9))
-def test_wrong_numbers_of_records(count: int, page: Path, records: RecordBench) -> None:
-    files = [records.file(f"{k}.rec", b"") for k in range(count)]
-    given = records.tool("det_page.py", *files, "--page", str(page))
-    line = f"det_page: {count} records: a page takes one to 8\n"
-    assert (given.status, given.out, given.err.decode()) == (2, b"", line)
-
-
-def test_files_that_are_not_there(page: Path, records: RecordBench) -> None:
-    record = records.file("a.rec", b"")
-    given = records.tool("det_page.py", "none.rec", "--page", str(page))
-    assert (given.status, given.err) == (6, b"det_page: can't read none.rec: "
-                                            b"No such file or directory\n")
-    given = records.tool("det_page.py", record, "--page", record)
-    line = f"det_page: {record} is not a page that takes records\n"
-    assert (given.status, given.err.decode()) == (6, line)
-    given = records.tool("det_page.py", record, "--page", str(page), "-o", "none/page.html")
-    line = b"det_page: can't write the page: No such file or directory\n"
-    assert (given.status, given.err) == (7, line)

@@ -29,7 +29,7 @@ OUT = TOP / "out" / "page"
 COMPILED, PROVED = "compiled", "proved"
 # The scripts of the worker and of the page itself, in order.
 WORKER = ("fields.js", "records.js", "worker.js")
-PAGE = ("fields.js", "draw.js", "page.js")
+PAGE = ("fields.js", "draw.js", "words.js", "parts.js", "charts.js", "page.js")
 
 
 def one_file(module: bytes) -> str:
