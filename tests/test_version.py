@@ -1,18 +1,20 @@
 """The file VERSION, and all that has the version.
 
-The installer, the Debian packages and their tests take it from there. The texts below can't: they
-are headers, proved sources and documents. For a new version, change VERSION and run this group; it
-names each text that is left.
+The installer, the Debian packages, the page for a browser and their tests take it from there. The
+texts below can't: they are headers, proved sources and documents. For a new version, change VERSION
+and run this group; it names each text that is left.
 """
 
 from __future__ import annotations
 
+import os
 import re
 import shutil
 from pathlib import Path
 
 import pytest
 
+import build_page
 from commands import TOP, make, run
 from cpp_bench import CppBench, need
 from documents import text_of
@@ -89,6 +91,22 @@ def copy_installer(to: Path, version: str) -> None:
         shutil.copytree(TOP / name, to / name)
     (to / "VERSION").write_text(f"{version}\n")
     (to / "archive.a").write_bytes(b"")
+
+
+def test_page(folder: Path, monkeypatch: pytest.MonkeyPatch) -> None:
+    """The page has the version of the file, and is built anew when that file has changed."""
+    assert f"det {VERSION}</p>" in build_page.one_file(b"")
+    monkeypatch.setattr(build_page, "OUT", folder)
+    monkeypatch.setattr(build_page, "VERSION", folder / "VERSION")
+    build_page.VERSION.write_text("7.8.9\n")
+    (folder / "det_page.html").write_text(build_page.one_file(b""))
+    (folder / "made").write_text("compiled\n")
+    assert "det 7.8.9</p>" in (folder / "det_page.html").read_text()
+    page = build_page.PageBuild(is_proof=False)
+    assert page.find() == folder / "det_page.html"
+    later = page.page.stat().st_mtime + 10
+    os.utime(build_page.VERSION, (later, later))
+    assert page.find() is None
 
 
 def test_told_once(folder: Path) -> None:

@@ -24,7 +24,7 @@ from compile import NoModule
 from crate_list import CRATES, LIST, TOP, newest_source, time_of_change
 from wasm import compile_wasm
 
-SOURCES = TOP / "page"
+SOURCES, VERSION = TOP / "page", TOP / "VERSION"
 OUT = TOP / "out" / "page"
 COMPILED, PROVED = "compiled", "proved"
 # The scripts of the worker and of the page itself, in order.
@@ -33,8 +33,9 @@ PAGE = ("fields.js", "draw.js", "words.js", "parts.js", "charts.js", "page.js")
 
 
 def one_file(module: bytes) -> str:
-    """The page with its scripts and its module."""
+    """The page with its version, its scripts and its module."""
     parts = {
+        "VERSION": VERSION.read_text().strip(),
         "MODULE": base64.b64encode(module).decode(),
         "WORKER": "\n".join((SOURCES / name).read_text() for name in WORKER),
         "PAGE": "\n".join((SOURCES / name).read_text() for name in PAGE),
@@ -55,7 +56,7 @@ class PageBuild(Build):
     def find(self) -> Optional[Path]:
         if not self.page.is_file() or not self.made.is_file():
             return None
-        files = [LIST, SOURCES, *SOURCES.iterdir()]
+        files = [LIST, VERSION, SOURCES, *SOURCES.iterdir()]
         sources = [*map(newest_source, self.needed), *(time_of_change(str(it)) for it in files)]
         is_new = max(sources) <= self.page.stat().st_mtime
         is_enough = not self.is_proof or self.made.read_text() == f"{PROVED}\n"
