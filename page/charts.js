@@ -42,7 +42,7 @@ function showRunCharts(out, most) {
 }
 
 async function showOutputs(out, most) {
-  const fields = outputFields(headerOf(copies[0].header).job);
+  const fields = outputFields(headerOf(copies[headedCopy()].header).job);
   const all = await Promise.all(
       copies.map(({ runs }, k) => ask('values', k, runs.count, null, fields, EXACT_CYCLES)));
   make(out, 'h2', 'Outputs');
@@ -70,7 +70,7 @@ async function showValues(out, most, list) {
   const chosen = [
     ...new Set(list.split(',').map((it) => parseInt(it, 10)).filter((n) => n >= 0 && n < 65536))
   ].slice(0, MOST_CHOSEN);
-  const { job, events } = headerOf(copies[0].header);
+  const { job, events } = headerOf(copies[headedCopy()].header);
   const fields = elementFields(job, events);
   const wanted =
       chosen.flatMap((element, i) => copies.map((copy, k) => ({ element, i, k, runs: copy.runs })));

@@ -35,6 +35,9 @@ function fail(line) {
   $('verdict').className = 'bad';
 }
 
+// A name as one line, in which no character moves others: `?` is in place of such a one.
+const shownName = (name) => name.replace(/[\p{Cc}\p{Bidi_Control}\u2028\u2029]/gu, '?');
+
 async function show(files) {
   const out = $('out');
   out.textContent = $('words').textContent = $('verdict').className = '';
@@ -44,7 +47,8 @@ async function show(files) {
   }
   $('verdict').textContent = 'reading ..';
   const { copies: found, verdict } = await ask('open', files.map(({ blob }) => blob));
-  copies = found.map((copy, k) => ({...copy, name: files[k].name, size: files[k].blob.size }));
+  copies = found.map(
+      (copy, k) => ({...copy, name: shownName(files[k].name), size: files[k].blob.size }));
   $('verdict').textContent = verdictLine(verdict);
   const is_bad = verdict ? verdict.status !== 0 : copies[0].runs.fault;
   $('verdict').className = is_bad ? 'bad' : '';
@@ -52,7 +56,7 @@ async function show(files) {
   const most = Math.max(...copies.map(({ runs }) => runs.count));
   const elements =
       Math.max(...copies.map(({ runs }) => runs.elements.reduce((a, b) => Math.max(a, b), 0)));
-  if (place) await tellDifference(place);
+  $('words').textContent = await wordsOnVerdict(verdict);
   showTable(out);
   if (most) {
     showCycles(out, most);
@@ -60,8 +64,9 @@ async function show(files) {
     await showElements(out, most, elements, place);
     await showOutputs(out, most);
     showRunCharts(out, most);
+    await showTexts(out, most, place);
   }
-  await showTexts(out, most, place);
+  showHeader(out);
 }
 
 // Shows records, and notes in the document when that is done.

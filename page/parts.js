@@ -111,23 +111,36 @@ async function showMaps(out, elements, place) {
   }
 }
 
+function firstLines(lines, most) {
+  const more = lines.length > most ? `\n.. ${lines.length - most} more lines` : '';
+  return lines.slice(0, most).join('\n') + more;
+}
+
+// A cycle by its texts, of which a copy without that cycle has none: the lines that differ, or all
+// lines if none does.
+function cycleInCopies(texts) {
+  const there =
+      texts.map((text, k) => ({ k, lines: text.split('\n') })).filter(({ k }) => texts[k]);
+  const absent = texts.flatMap((text, k) => (text ? [] : [`copy ${k} has no such cycle`]));
+  const longest = Math.max(0, ...there.map(({ lines }) => lines.length));
+  const apart = Array.from({ length: longest }, (_, i) => i)
+                    .filter((i) => there.some(({ lines }) => lines[i] !== there[0].lines[i]));
+  if (apart.length) {
+    const differing = ({ k, lines }) =>
+        `copy ${k}, the lines that differ\n${firstLines(apart.map((i) => lines[i] ?? ''), 12)}`;
+    return [...there.map(differing), ...absent].join('\n\n');
+  }
+  const names = absent.length ? there.map(({ k }) => `copy ${k}`).join(', ') : 'all copies';
+  const title = texts.length > 1 ? `${names}\n` : '';
+  const same = there.slice(0, 1).map(({ lines }) => title + firstLines(lines, MOST_LINES));
+  return [...same, ...absent].join('\n\n');
+}
+
 async function showText() {
   const cycle = Number($('cycle').value);
   if (!(cycle >= 1)) return;
-  const texts = (await Promise.all(copies.map((_, k) => ask('text', k, cycle))))
-                    .map((text) => text.split('\n'));
-  const cut = (lines, most) => lines.slice(0, most).join('\n') +
-      (lines.length > most ? `\n.. ${lines.length - most} more lines` : '');
-  const longest = Math.max(...texts.map((lines) => lines.length));
-  const apart = Array.from({ length: longest }, (_, i) => i)
-                    .filter((i) => texts.some((lines) => lines[i] !== texts[0][i]));
-  $('text').textContent = apart.length ?
-      texts
-          .map(
-              (lines, k) =>
-                  `copy ${k}, the lines that differ\n${cut(apart.map((i) => lines[i] ?? ''), 12)}`)
-          .join('\n\n') :
-      `${texts.length > 1 ? 'all copies\n' : ''}${cut(texts[0], MOST_LINES)}`;
+  const texts = await Promise.all(copies.map((_, k) => ask('text', k, cycle)));
+  $('text').textContent = cycleInCopies(texts);
 }
 
 async function showTexts(out, most, place) {
@@ -143,6 +156,11 @@ async function showTexts(out, most, place) {
   cycle.onchange = () => showText().catch((error) => fail(error.message));
   make(out, 'pre', '', { id: 'text' });
   await showText();
-  make(out, 'h2', 'Header of copy 0');
-  make(out, 'pre', copies[0].header, { id: 'header' });
+}
+
+function showHeader(out) {
+  const copy = headedCopy();
+  if (!copies[copy].header) return;
+  make(out, 'h2', `Header of copy ${copy}`);
+  make(out, 'pre', copies[copy].header, { id: 'header' });
 }

@@ -140,6 +140,27 @@ class Records {
     return end < 0 ? text : text.slice(0, end);
   }
 
+  // How many whole items the first bytes of a copy have: its header, and its frames to the last
+  // run.
+  items(copy, most) {
+    const place = BigInt(this.count_at);  // of no row, and of the count
+    this.exports.page_runs(...this.record(copy, most), place, 0n, place, BigInt(this.fault_at));
+    const runs = this.count();
+    if (runs) return 4 + runs;
+    const text = this.text(copy, 0, most);
+    return [/^format /, /^register$/m, /^discover$/m, /^init /m]
+        .filter((it) => it.test(text))
+        .length;
+  }
+
+  // A fault with the number of whole items before it. `begins` is set if it is at the first byte of
+  // the next one: then one byte less has one item less.
+  withPlace(copy, fault) {
+    const items = this.items(copy, fault.offset);
+    const begins = items > 0 && this.items(copy, fault.offset - 1) < items;
+    return {...fault, items, begins };
+  }
+
   // The rows of all cycles in memory, their number, and the fault after them.
   runRows(copy) {
     for (let most = FIRST_ROWS;;) {
@@ -158,7 +179,7 @@ class Records {
   runs(copy) {
     const { rows, count, fault } = this.runRows(copy);
     const columns = ['time', 'draws', 'output', 'samples', 'elements'];
-    const runs = { count, fault, refusals: [] };
+    const runs = { count, refusals: [], fault: fault && this.withPlace(copy, fault) };
     for (const name of columns) runs[name] = new Float64Array(count);
     const view = this.view();
     for (let i = 0, at = rows; i < count; i++, at += RUN_SIZE) {

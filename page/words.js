@@ -1,5 +1,20 @@
-// What the page says in words: the verdict, and the difference at its place. The records are the
-// global `copies` of page.js.
+// What the page says in words: the verdict, and what it means. The records are the global `copies`
+// of page.js.
+
+// What the reason of a fault means, as docs/FORMATS.md has it.
+const REASON_WORDS = {
+  magic: 'It is no record: a record begins with DETREC.',
+  version: 'The version of its format is neither 1 nor 2.',
+  range: 'The byte there is part of no allowed value.',
+  order: 'The frame that begins there may not come next.',
+  too_many: 'A record has at most 1,000,000 cycles.',
+  truncated: "The file ends there, and the record doesn't: it was cut, or not written to its end.",
+  trailing: 'More bytes follow the end of the record.'
+};
+const WHOLE_WORDS = 'Its form is right from the first byte to the last. ' +
+    'The command check finds whether its values are what its inputs give.';
+// The frames before the first cycle, by their numbers.
+const FRAMES = ['Register', 'Discover', 'Init'];
 
 const faultLine = (fault, copy) =>
     `bad record: copy ${copy} offset ${fault.offset} ${fault.reason}`;
@@ -55,8 +70,57 @@ function lineInWords(line, header) {
   return output ? hexInWords(output[1], outputFields(header.job)) : line;
 }
 
+// The place of a fault, in the words of the hint of `det`.
+function faultPlace({ reason, items, begins }) {
+  const frame = items - 1;
+  if (items === 0) return 'in the header';
+  if (reason === 'trailing') return `behind frame ${frame}, Terminate`;
+  if (begins) return `where frame ${frame} begins: ${FRAMES[frame] || 'a run or Terminate'}`;
+  return frame === 2 ? 'in frame 2, Init' : `in frame ${frame}, the run of cycle ${frame - 2}`;
+}
+
+// What is shown of a copy with a fault. All copies begin with the frames before the fault that is
+// the verdict on them.
+function wordsOnRest({ header, runs: { count } }) {
+  if (!header) return 'Nothing of the file can be shown.';
+  if (!count) return 'No whole cycle comes before the fault.';
+  const [cycles, are] =
+      count === 1 ? ['The whole cycle', 'is'] : [`The ${number(count)} whole cycles`, 'are'];
+  const also = copies.length > 1 ? `, and ${are} the same in all copies` : '';
+  return `${cycles} before the fault ${are} shown${also}.`;
+}
+
+// The fault of a copy that is the verdict.
+function wordsOnFault(k) {
+  const { name, size, runs: { fault } } = copies[k];
+  const who = copies.length > 1 ? `Copy ${k}, ${name},` : name;
+  const meaning = size ? REASON_WORDS[fault.reason] : 'The file is empty.';
+  return `${who} has a fault at offset ${fault.offset}, ${faultPlace(fault)}. ${meaning} ${
+      wordsOnRest(copies[k])}`;
+}
+
+// Which copies have a fault that isn't the verdict.
+function wordsOnOthers(verdict) {
+  const others =
+      [...copies.keys()].filter((k) => copies[k].runs.fault && k !== verdict.fault?.copy);
+  if (!others.length) return '';
+  const last = others.pop();
+  return others.length ? ` The table names the faults of copies ${others.join(', ')} and ${last}.` :
+                         ` The table names the fault of copy ${last}.`;
+}
+
+// What the verdict means.
+async function wordsOnVerdict(verdict) {
+  if (!verdict && copies[0].runs.fault) return wordsOnFault(0);
+  if (!verdict) return WHOLE_WORDS;
+  if (verdict.fault) return wordsOnFault(verdict.fault.copy) + wordsOnOthers(verdict);
+  const place = placeOf(verdict.line);
+  if (!place) return `The ${copies.length} copies are the same record, byte for byte.`;
+  return await wordsOnDifference(place) + wordsOnOthers(verdict);
+}
+
 // The difference in words, with what both copies have at its place.
-async function tellDifference(place) {
+async function wordsOnDifference(place) {
   const { copy, kind, cycle, frame, element } = place;
   const where = cycle === 0 ? 'Init' : `cycle ${cycle}`;
   const what = {
@@ -78,8 +142,11 @@ async function tellDifference(place) {
         (line, k) => parts.push(`Copy ${k ? copy : 0} has ${
             lineInWords(line, headerOf(copies[k ? copy : 0].header))}.`));
   }
-  $('words').textContent = parts.join(' ');
+  return parts.join(' ');
 }
+
+// The first copy with a whole header, or copy 0.
+const headedCopy = () => Math.max(0, copies.findIndex(({ header }) => header));
 
 function headerOf(text) {
   return {

@@ -14,11 +14,13 @@ import pytest
 
 from browsers import CHROMIUM, FIREFOX, Browser, Lacking, opened
 from builds import build_page
-from commands import Outcome
+from commands import TOP, Outcome
 from det_record import BadRecord, Finished, RecordReader, Refused, Run
+from documents import section
+from hint_cases import RECORDS, RUN_1_AT, WHOLE
 from mutations import changed_record
 from record_bench import RecordBench
-from record_bytes import mixed_record
+from record_bytes import many_runs, mixed_record
 
 # How many draws of copies a browser compares.
 DRAWS = {CHROMIUM: 60, FIREFOX: 15}
@@ -33,7 +35,20 @@ SHOWN = """({
   texts: Object.fromEntries([...document.querySelectorAll('pre')]
     .map((it) => [it.id, it.textContent])),
   differing: [...document.querySelectorAll('.differing')].map((it) => it.textContent),
+  headings: [...document.querySelectorAll('h2')].map((it) => it.textContent),
+  width: document.documentElement.scrollWidth,
 })"""
+# What the page says of each reason of a fault.
+REASONS = {
+    "magic": "It is no record: a record begins with DETREC.",
+    "version": "The version of its format is neither 1 nor 2.",
+    "range": "The byte there is part of no allowed value.",
+    "order": "The frame that begins there may not come next.",
+    "too_many": "A record has at most 1,000,000 cycles.",
+    "truncated": "The file ends there, and the record doesn't: "
+    "it was cut, or not written to its end.",
+    "trailing": "More bytes follow the end of the record.",
+}
 
 
 @pytest.fixture(scope="module")
@@ -98,6 +113,39 @@ def expected_verdict(given: Outcome) -> str:
     return (given.out if given.status in (0, 1) else given.line()).decode().strip()
 
 
+def expected_rest(copies: Sequence[bytes], bad: int) -> str:
+    """What the page says of a copy before the fault that is the verdict, where all copies have the
+    same cycles."""
+    runs = runs_in(copies[bad])
+    assert all(runs_in(it)[: len(runs)] == runs for it in copies)
+    if not items_before(copies[bad]):
+        return "Nothing of the file can be shown."
+    if not runs:
+        return "No whole cycle comes before the fault."
+    also = ", and {} the same in all copies" if len(copies) > 1 else ""
+    if len(runs) == 1:
+        return f"The whole cycle before the fault is shown{also.format('is')}."
+    return f"The {len(runs):,} whole cycles before the fault are shown{also.format('are')}."
+
+
+def expected_words(given: Outcome, copies: Sequence[bytes], names: Sequence[str]) -> str:
+    """What the words on the page begin with, for an outcome of `det compare`, or of `det show` for
+    one record. The place of a fault is that of the hint."""
+    if given.status == 0 and len(copies) == 1:
+        return "Its form is right from the first byte to the last. "
+    if given.status == 0:
+        return f"The {len(copies)} copies are the same record, byte for byte."
+    if given.status == 1:
+        return "Copy "
+    found = re.fullmatch(r"bad record: copy (\d+) offset (\d+) (\w+)", given.line().decode())
+    assert found, given
+    bad, place = int(found[1]), given.hints()[0].decode().split(": ", 1)[1]
+    who = f"Copy {bad}, {names[bad]}," if len(copies) > 1 else names[bad]
+    meaning = REASONS[found[3]] if copies[bad] else "The file is empty."
+    rest = expected_rest(copies, bad)
+    return f"{who} has a fault at offset {found[2]}, {place}. {meaning} {rest}"
+
+
 def some_copies(draw: int, records: RecordBench) -> list[bytes]:
     """Two to four copies: equal, changed, cut, or of other runs."""
     chance = random.Random(draw)
@@ -124,14 +172,17 @@ def name_of(browser: Browser) -> str:
 def test_verdicts_are_those_of_compare(
     browser: Browser, page: Path, records: RecordBench
 ) -> None:
-    """Copies drawn by chance: the verdict, the faults, the numbers of cycles and of refusals, and
-    the text of a cycle of copy 0."""
+    """Copies drawn by chance: the verdict and its meaning, the faults, the numbers of cycles and of
+    refusals, and the text of a cycle of copy 0."""
     load(browser, page)
     for draw in range(DRAWS[name_of(browser)]):
         copies = some_copies(draw, records)
         files = [records.file(f"{draw}-{k}.rec", it) for k, it in enumerate(copies)]
         shown = choose(browser, files)
-        assert shown["verdict"] == expected_verdict(records.run("det", "compare", *files)), draw
+        given = records.run("det", "compare", *files)
+        assert shown["verdict"] == expected_verdict(given), draw
+        words = expected_words(given, copies, [Path(it).name for it in files])
+        assert shown["words"].startswith(words), draw
         for k, (row, data) in enumerate(zip(shown["copies"], copies)):
             runs = runs_in(data)
             refused = sum(isinstance(it.outcome, Refused) for it in runs)
@@ -141,6 +192,79 @@ def test_verdicts_are_those_of_compare(
         cycle = 1 + draw % 5
         printed = records.run("det", "show", files[0], "--cycle", str(cycle)).out.decode()
         assert text_of(browser, cycle) == printed, draw
+
+
+def test_words_on_each_kind_of_fault(
+    browser: Browser, page: Path, records: RecordBench
+) -> None:
+    """Beside a whole record: a fault at each place that hints name, and each reason."""
+    load(browser, page)
+    whole = records.example("guard")
+    cases = [it for it in RECORDS if [*it.words[1:3]] == [b"compare", b"r"] and "q" in it.files]
+    faulty = [it.files["q"] for it in cases] + [whole[:7] + b"\3" + whole[8:]]
+    seen = set()
+    for k, data in enumerate(faulty):
+        files = [records.file("r.rec", WHOLE), records.file(f"q{k}.rec", data)]
+        shown, given = choose(browser, files), records.run("det", "compare", *files)
+        assert shown["verdict"] == expected_verdict(given)
+        words = expected_words(given, [WHOLE, data], ["r.rec", f"q{k}.rec"])
+        assert shown["words"] == words
+        seen.add(shown["verdict"].split()[-1])
+    assert len(cases) > 10
+    assert seen == set(REASONS) - {"too_many"}
+
+
+def test_words_on_one_record(browser: Browser, page: Path, records: RecordBench) -> None:
+    """A whole record; one that is torn in its last cycle; one without cycles; a text; a file
+    without bytes. What a file doesn't have has no heading."""
+    load(browser, page)
+    whole = records.example("guard")
+    parts = {"A cycle as text", "Header of copy 0"}
+    for name, data, headings in (
+        ("whole.rec", whole, parts),
+        ("torn.rec", whole[:-9], parts),
+        ("no cycle.rec", WHOLE[:RUN_1_AT], {"Header of copy 0"}),
+        ("notes.txt", b"no record\n", set()),
+        ("empty", b"", set()),
+    ):
+        file = records.file(name, data)
+        shown, given = choose(browser, [file]), records.run("det", "show", file, "--reports")
+        assert shown["words"].startswith(expected_words(given, [data], [name]))
+        assert parts & {*shown["headings"]} == headings, name
+
+
+@pytest.mark.slow
+def test_words_on_too_many_cycles(
+    browser: Browser, page: Path, records: RecordBench
+) -> None:
+    load(browser, page)
+    data = many_runs(1_000_001)
+    file = records.file("many.rec", data)
+    shown, given = choose(browser, [file]), records.run("det", "show", file, "--reports")
+    place = "where frame 1000003 begins: a run or Terminate"
+    assert given.hints()[0].decode().endswith(f": {place}")
+    # The run too many takes 15 bytes, and Terminate one.
+    assert shown["verdict"] == f"bad record: copy 0 offset {len(data) - 16} too_many"
+    assert shown["words"] == (
+        f"many.rec has a fault at offset {len(data) - 16}, {place}. {REASONS['too_many']} "
+        "The 1,000,000 whole cycles before the fault are shown."
+    )
+
+
+def test_records_beside_a_text(browser: Browser, page: Path, records: RecordBench) -> None:
+    """The header and the names of numbers are those of the first record, and a cycle is shown of
+    the copies that have it. The table has the faults that the verdict isn't about."""
+    load(browser, page)
+    data = records.example("wheels")
+    names = {"notes.txt": b"no record\n", "a.rec": data, "torn.rec": data[:-1]}
+    shown = choose(browser, [records.file(name, it) for name, it in names.items()])
+    assert shown["words"].endswith(" The table names the fault of copy 2.")
+    assert "Header of copy 1" in shown["headings"]
+    assert shown["texts"]["header"].startswith("format 2\njob 3\n")
+    assert shown["texts"]["outputs"].startswith("cycle\tcopy 0 corrections of all cycles\t")
+    printed = records.run("det", "show", "a.rec", "--cycle", "1").out.decode()
+    text = f"copy 1, copy 2\n{printed}\n\ncopy 0 has no such cycle"
+    assert shown["texts"]["text"] == text
 
 
 def fields_of(data: bytes) -> tuple[list[str], list[str]]:
@@ -215,6 +339,22 @@ def test_map_counts_cycles_that_differ(
     )
 
 
+def test_words_of_the_tutorial(browser: Browser, page: Path, records: RecordBench) -> None:
+    """The words that the tutorial quotes. `WHOLE` has the first two cycles of its `one.rec`."""
+    load(browser, page)
+    quotes = section("docs/TUTORIAL.md", "## A page that compares records").split("\n\n")
+    quoted = [it.replace("\n> ", " ")[2:] for it in quotes if it.startswith("> ")]
+    text = (TOP / "examples" / "wheels.stim").read_text()
+    other = records.file("other.stim", text.replace("sample 0 250", "sample 0 -250"))
+    made = records.output("det", "record", TOP / "examples" / "wheels.toml", other)
+    pairs = [
+        {"wheels.rec": records.example("wheels"), "other.rec": made},
+        {"one.rec": WHOLE, "torn.rec": WHOLE[:300]},
+    ]
+    files = [[records.file(name, data) for name, data in it.items()] for it in pairs]
+    assert [choose(browser, it)["words"] for it in files] == quoted
+
+
 def test_too_many_records(browser: Browser, page: Path, records: RecordBench) -> None:
     load(browser, page)
     data = mixed_record(2)
@@ -227,13 +367,18 @@ def test_too_many_records(browser: Browser, page: Path, records: RecordBench) ->
 def test_records_that_are_embedded(
     browser: Browser, page: Path, records: RecordBench
 ) -> None:
-    """A page with two records shows them when it is opened, under their names."""
+    """A page with two records shows them when it is opened, under their names. A name is one line,
+    with `?` for what would move its other characters."""
     data = records.example("guard")
-    files = [records.file("a <b>.rec", data), records.file("torn.rec", data[:-1])]
+    odd = "".join(("a <b>&amp;", "\u202e", "\n\x07", "\u00e9", "x" * 200))
+    files = [records.file(odd, data), records.file("torn.rec", data[:-1])]
     out = records.folder / "with records.html"
     given = records.tool("det_page.py", *files, "-o", str(out), "--page", str(page))
     assert (given.status, given.out, given.err) == (0, b"", b"")
     load(browser, out)
     shown = browser.value(SHOWN)
     assert shown["verdict"] == f"bad record: copy 1 offset {len(data) - 1} truncated"
-    assert [row[1] for row in shown["copies"]] == ["a <b>.rec", "torn.rec"]
+    names = ["a <b>&amp;???\u00e9" + "x" * 200, "torn.rec"]
+    assert [row[1] for row in shown["copies"]] == names
+    assert shown["words"].startswith("Copy 1, torn.rec, has a fault at offset ")
+    assert shown["width"] <= browser.value("document.documentElement.clientWidth")
