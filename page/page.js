@@ -27,7 +27,12 @@ function startWorker() {
     else
       reject(new Error(data.error));
   };
-  worker.onerror = (event) => fail(`the worker stopped: ${event.message}`);
+  worker.onerror = (event) => {
+    const error = new Error(`the worker stopped: ${event.message}`);
+    fail(error.message);
+    waiting.forEach(({ reject }) => reject(error));
+    waiting.clear();
+  };
 }
 
 function fail(line) {
@@ -84,15 +89,19 @@ const bytesOf = (text) => Uint8Array.from(atob(text.trim()), (c) => c.charCodeAt
 
 const namedBlobs = (list) => [...list].map((file) => ({ name: file.name, blob: file }));
 
-async function start() {
-  try {
-    startWorker();
-    await ask('load', bytesOf($('module').textContent));
-  } catch (error) {
-    fail(`this browser can't run the page: ${error.message}`);
-    document.body.dataset.done = '1';
-    return;
-  }
+// Delays the event `load` of the page, for which a browser without a window waits before it makes a
+// picture: a document in a frame that is open does that. Returns what ends the delay.
+function delayLoad() {
+  const frame = make(document.body, 'iframe', undefined, { hidden: true });
+  frame.contentDocument?.open();
+  return () => {
+    frame.contentDocument?.close();
+    frame.remove();
+  };
+}
+
+// From now on takes the files that are chosen or dropped.
+function takeChosen() {
   $('files').onchange = () => take(namedBlobs($('files').files));
   document.ondragover = (event) => {
     event.preventDefault();
@@ -104,12 +113,25 @@ async function start() {
     $('drop').classList.remove('over');
     take(namedBlobs(event.dataTransfer.files));
   };
-  const embedded = [...document.querySelectorAll('script.record')];
-  if (embedded.length) {
-    await take(embedded.map(
-        (it) => ({ name: it.dataset.name, blob: new Blob([bytesOf(it.textContent)]) })));
+}
+
+async function start() {
+  const endDelay = delayLoad();
+  try {
+    startWorker();
+    await ask('load', bytesOf($('module').textContent));
+    takeChosen();
+    const embedded = [...document.querySelectorAll('script.record')];
+    if (embedded.length) {
+      await take(embedded.map(
+          (it) => ({ name: it.dataset.name, blob: new Blob([bytesOf(it.textContent)]) })));
+    }
+    document.body.dataset.ready = '1';
+  } catch (error) {
+    fail(`this browser can't run the page: ${error.message}`);
+    document.body.dataset.done = '1';
   }
-  document.body.dataset.ready = '1';
+  endDelay();
 }
 
 start();

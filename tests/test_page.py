@@ -3,22 +3,23 @@ compare` and `det show` say, and shows the values that tools/det_record.py reads
 
 from __future__ import annotations
 
-import io
 import random
 import re
 import tempfile
 from pathlib import Path
-from typing import Any, Iterator, Optional, Sequence
+from typing import Any, Iterator, Sequence
 
 import pytest
 
 from browsers import CHROMIUM, FIREFOX, Browser, Lacking, opened
+from build_page import one_file
 from builds import build_page
-from commands import TOP, Outcome
-from det_record import BadRecord, Finished, RecordReader, Refused, Run
+from commands import TOP
+from det_record import Finished, Refused
 from documents import section
 from hint_cases import RECORDS, RUN_1_AT, WHOLE
 from mutations import changed_record
+from page_words import REASONS, expected_verdict, expected_words, runs_in
 from record_bench import RecordBench
 from record_bytes import many_runs, mixed_record
 
@@ -38,17 +39,6 @@ SHOWN = """({
   headings: [...document.querySelectorAll('h2')].map((it) => it.textContent),
   width: document.documentElement.scrollWidth,
 })"""
-# What the page says of each reason of a fault.
-REASONS = {
-    "magic": "It is no record: a record begins with DETREC.",
-    "version": "The version of its format is neither 1 nor 2.",
-    "range": "The byte there is part of no allowed value.",
-    "order": "The frame that begins there may not come next.",
-    "too_many": "A record has at most 1,000,000 cycles.",
-    "truncated": "The file ends there, and the record doesn't: "
-    "it was cut, or not written to its end.",
-    "trailing": "More bytes follow the end of the record.",
-}
 
 
 @pytest.fixture(scope="module")
@@ -85,65 +75,6 @@ def choose(browser: Browser, files: Sequence[str]) -> dict[str, Any]:
 def text_of(browser: Browser, cycle: int) -> str:
     """The text of a cycle, as the module prints it of copy 0."""
     return browser.value(f"ask('text', 0, {cycle})")
-
-
-def runs_in(data: bytes) -> list[Run]:
-    """The cycles of a record before its end or fault, as Python reads them."""
-    found: list[Run] = []
-    try:
-        found += (it for it in RecordReader(io.BytesIO(data)).items() if isinstance(it, Run))
-    except BadRecord:
-        found = [it for it in items_before(data) if isinstance(it, Run)]
-    return found
-
-
-def items_before(data: bytes) -> list[Any]:
-    """The items before a fault."""
-    found: list[Any] = []
-    try:
-        for item in RecordReader(io.BytesIO(data)).items():
-            found.append(item)
-    except BadRecord:
-        pass
-    return found
-
-
-def expected_verdict(given: Outcome) -> str:
-    """The line that the page shows for an outcome of `det compare`."""
-    return (given.out if given.status in (0, 1) else given.line()).decode().strip()
-
-
-def expected_rest(copies: Sequence[bytes], bad: int) -> str:
-    """What the page says of a copy before the fault that is the verdict, where all copies have the
-    same cycles."""
-    runs = runs_in(copies[bad])
-    assert all(runs_in(it)[: len(runs)] == runs for it in copies)
-    if not items_before(copies[bad]):
-        return "Nothing of the file can be shown."
-    if not runs:
-        return "No whole cycle comes before the fault."
-    also = ", and {} the same in all copies" if len(copies) > 1 else ""
-    if len(runs) == 1:
-        return f"The whole cycle before the fault is shown{also.format('is')}."
-    return f"The {len(runs):,} whole cycles before the fault are shown{also.format('are')}."
-
-
-def expected_words(given: Outcome, copies: Sequence[bytes], names: Sequence[str]) -> str:
-    """What the words on the page begin with, for an outcome of `det compare`, or of `det show` for
-    one record. The place of a fault is that of the hint."""
-    if given.status == 0 and len(copies) == 1:
-        return "Its form is right from the first byte to the last. "
-    if given.status == 0:
-        return f"The {len(copies)} copies are the same record, byte for byte."
-    if given.status == 1:
-        return "Copy "
-    found = re.fullmatch(r"bad record: copy (\d+) offset (\d+) (\w+)", given.line().decode())
-    assert found, given
-    bad, place = int(found[1]), given.hints()[0].decode().split(": ", 1)[1]
-    who = f"Copy {bad}, {names[bad]}," if len(copies) > 1 else names[bad]
-    meaning = REASONS[found[3]] if copies[bad] else "The file is empty."
-    rest = expected_rest(copies, bad)
-    return f"{who} has a fault at offset {found[2]}, {place}. {meaning} {rest}"
 
 
 def some_copies(draw: int, records: RecordBench) -> list[bytes]:
@@ -353,6 +284,13 @@ def test_words_of_the_tutorial(browser: Browser, page: Path, records: RecordBenc
     ]
     files = [[records.file(name, data) for name, data in it.items()] for it in pairs]
     assert [choose(browser, it)["words"] for it in files] == quoted
+
+
+def test_page_that_cant_run(browser: Browser, records: RecordBench) -> None:
+    """A page without a module says so, and is loaded."""
+    load(browser, Path(records.file("page.html", one_file(b""))))
+    assert browser.value(SHOWN)["verdict"].startswith("this browser can't run the page: ")
+    assert browser.value("document.readyState") == "complete"
 
 
 def test_too_many_records(browser: Browser, page: Path, records: RecordBench) -> None:

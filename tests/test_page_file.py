@@ -1,20 +1,29 @@
-"""The page for a browser as a file: its scripts, and the tool that puts records into it."""
+"""The page for a browser as a file: its scripts, the tool that puts records into it, and pictures
+of it by the commands of the tutorial."""
 
 from __future__ import annotations
 
+import os
 import re
 from pathlib import Path
 
 import pytest
 
+from browsers import CHROMIUM, FIREFOX, Lacking, program
 from build_page import PAGE, SOURCES, WORKER
 from builds import build_page
+from commands import TOP, run
+from documents import section
+from pictures import colours
 from record_bench import RecordBench
 
 MOST_LINES, MOST_COLUMNS, MOST_LINES_OF_FUNCTION = 400, 100, 40
 # A function at the top of a script, and a method of a class there.
 FUNCTION = re.compile(r"^(?:async )?function \w+\(.*?^\}$", re.M | re.S)
 METHOD = re.compile(r"^  (?!if |for )(?:static |async )*\w+\([^;]*?\) \{$.*?^  \}$", re.M | re.S)
+# The colours of a verdict that isn't good, and of the elements in a map.
+DRAWN = {(0xD5, 0x5E, 0x00), (0x00, 0x72, 0xB2)}
+ROWS = 600
 
 
 @pytest.fixture(scope="module")
@@ -56,3 +65,34 @@ def test_files_that_are_not_there(page: Path, records: RecordBench) -> None:
     given = records.tool("det_page.py", record, "--page", str(page), "-o", "none/page.html")
     line = b"det_page: can't write the page: No such file or directory\n"
     assert (given.status, given.err) == (7, line)
+
+
+def picture_of(page: Path, browser: str) -> bytes:
+    """The picture that a browser's command in the tutorial makes of `page.html` in a folder."""
+    lines = section("docs/TUTORIAL.md", "## A page that compares records").splitlines()
+    command = next(it.strip() for it in lines if it.startswith(f"    {browser} --headless "))
+    if browser == CHROMIUM and os.geteuid() == 0:
+        command += " --no-sandbox"
+    given = run(["bash", "-c", command], page.parent, {**os.environ, "HOME": str(page.parent)})
+    assert given.status == 0, given
+    return (page.parent / "page.png").read_bytes()
+
+
+@pytest.mark.slow
+@pytest.mark.parametrize("browser", (CHROMIUM, FIREFOX))
+def test_picture_without_a_window(browser: str, page: Path, records: RecordBench) -> None:
+    """It has the records of a page, also if the browser is fast. Without records there are none."""
+    try:
+        program(browser)
+    except Lacking as why:
+        pytest.fail(str(why))
+    changed = (TOP / "examples" / "wheels.stim").read_text().replace("sample 0 250", "sample 0 -9")
+    words = ["record", TOP / "examples" / "wheels.toml", records.file("changed.stim", changed)]
+    files = {"a.rec": records.example("wheels"), "b.rec": records.output("det", *words)}
+    names = [records.file(name, data) for name, data in files.items()]
+    made = records.folder / "page.html"
+    assert records.tool("det_page.py", *names, "-o", "page.html", "--page", str(page)).status == 0
+    for _ in range(2):
+        assert DRAWN <= colours(picture_of(made, browser), ROWS)
+    made.write_bytes(page.read_bytes())
+    assert not DRAWN & colours(picture_of(made, browser), ROWS)
