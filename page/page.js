@@ -4,6 +4,8 @@ const MOST_RECORDS = 8;
 
 // The records that are shown: of each its name, its size, its header and its cycles.
 let copies = [];
+// Resolved once all records that were taken so far are shown.
+let taken = Promise.resolve();
 let worker = null;
 const waiting = new Map();
 
@@ -51,9 +53,8 @@ async function show(files) {
     return;
   }
   $('verdict').textContent = 'reading ..';
-  const { copies: found, verdict } = await ask('open', files.map(({ blob }) => blob));
-  copies = found.map(
-      (copy, k) => ({...copy, name: shownName(files[k].name), size: files[k].blob.size }));
+  const { copies: found, verdict } = await ask('open', files);
+  copies = found.map((copy, k) => ({...copy, name: files[k].name, size: files[k].blob.size }));
   $('verdict').textContent = verdictLine(verdict);
   const is_bad = verdict ? verdict.status !== 0 : copies[0].runs.fault;
   $('verdict').className = is_bad ? 'bad' : '';
@@ -74,15 +75,15 @@ async function show(files) {
   showHeader(out);
 }
 
-// Shows records, and notes in the document when that is done.
-async function take(files) {
-  delete document.body.dataset.done;
-  try {
-    await show(files);
-  } catch (error) {
-    fail(String(error.message || error));
-  }
-  document.body.dataset.done = '1';
+// Shows records once those that were taken before are shown. The document notes when it is done.
+function take(files) {
+  const named = [...files].map(({ name, blob }) => ({ blob, name: shownName(name) }));
+  taken = taken.then(async () => {
+    delete document.body.dataset.done;
+    await show(named).catch((error) => fail(String(error.message || error)));
+    document.body.dataset.done = '1';
+  });
+  return taken;
 }
 
 const bytesOf = (text) => Uint8Array.from(atob(text.trim()), (c) => c.charCodeAt(0));

@@ -65,15 +65,17 @@ class Records {
     return new TextDecoder('latin1').decode(this.bytes(place, length));
   }
 
-  // Lays records one after another in memory.
-  async open(blobs) {
-    this.lengths = blobs.map((blob) => blob.size);
+  // Lays records one after another in memory. A folder can't be read, nor a file that has changed.
+  async open(files) {
+    this.lengths = files.map(({ blob }) => blob.size);
     this.all = this.take(Math.max(1, this.lengths.reduce((sum, n) => sum + n, 0)));
     let at = this.all;
-    for (const blob of blobs) {
+    for (const { name, blob } of files) {
       const reader = blob.stream().getReader();
       for (;;) {
-        const { done, value } = await reader.read();
+        const { done, value } = await reader.read().catch(() => {
+          throw new Error(`can't read ${name}`);
+        });
         if (done) break;
         this.bytes(at, value.length).set(value);
         at += value.length;

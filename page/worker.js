@@ -16,11 +16,11 @@ const CALLS = {
   },
 
   // Reads the records, and what is shown first of them.
-  async open(blobs) {
+  async open(files) {
     records = await Records.of(module);
-    await records.open(blobs);
-    const copies = blobs.map((blob, k) => ({ runs: records.runs(k), header: records.header(k) }));
-    return { copies, verdict: blobs.length > 1 ? records.compare() : null };
+    await records.open(files);
+    const copies = files.map((_, k) => ({ runs: records.runs(k), header: records.header(k) }));
+    return { copies, verdict: files.length > 1 ? records.compare() : null };
   },
 
   map: (...words) => records.map(...words),

@@ -293,6 +293,27 @@ def test_page_that_cant_run(browser: Browser, records: RecordBench) -> None:
     assert browser.value("document.readyState") == "complete"
 
 
+def test_file_that_is_gone(browser: Browser, page: Path, records: RecordBench) -> None:
+    """The line has its name, in which `?` is in place of an odd character."""
+    load(browser, page)
+    file = records.file("gone\u202e.rec", WHOLE)
+    choose(browser, [file])
+    Path(file).unlink()
+    browser.value("(() => { delete document.body.dataset.done; document.getElementById('files')"
+                  ".dispatchEvent(new Event('change')); return 1 })()")
+    browser.wait("document.body.dataset.done")
+    shown = browser.value(SHOWN)
+    assert (shown["verdict"], shown["words"], shown["copies"]) == ("can't read gone?.rec", "", [])
+
+
+def test_records_that_come_fast(browser: Browser, page: Path) -> None:
+    """Records that are taken while others are read are shown in place of those."""
+    load(browser, page)
+    files = "[{ name: '%s', blob: new Blob(['x']) }]"
+    browser.value(f"(take({files % 'a'}), take({files % 'b'})).then(() => 1)")
+    assert [row[1] for row in browser.value(SHOWN)["copies"]] == ["b"]
+
+
 def test_too_many_records(browser: Browser, page: Path, records: RecordBench) -> None:
     load(browser, page)
     data = mixed_record(2)
