@@ -20,6 +20,11 @@ def chunks(png: bytes) -> Iterator[tuple[bytes, bytes]]:
         at += 12 + length
 
 
+def size_of(png: bytes) -> tuple[int, int]:
+    """The width and the height."""
+    return struct.unpack_from(">II", next(chunks(png))[1])
+
+
 def nearest(left: int, up: int, corner: int) -> int:
     """The neighbour that is nearest to a plane through all three (Paeth)."""
     sides = [(abs(left + up - corner - it), k) for k, it in enumerate((left, up, corner))]

@@ -14,7 +14,8 @@ from build_page import PAGE, SOURCES, WORKER
 from builds import build_page
 from commands import TOP, run
 from documents import section
-from pictures import colours
+from page_picture import MANIFEST, PICTURE, SIZE, other_copy, stimulus
+from pictures import colours, size_of
 from record_bench import RecordBench
 
 MOST_LINES, MOST_COLUMNS, MOST_LINES_OF_FUNCTION = 400, 100, 40
@@ -96,3 +97,15 @@ def test_picture_without_a_window(browser: str, page: Path, records: RecordBench
         assert DRAWN <= colours(picture_of(made, browser), ROWS)
     made.write_bytes(page.read_bytes())
     assert not DRAWN & colours(picture_of(made, browser), ROWS)
+
+
+def test_picture_of_the_documents(records: RecordBench) -> None:
+    """Its records differ from cycle 94 on, as the documents say, and it has the size that is asked
+    for."""
+    words = [records.file("cloud.toml", MANIFEST), records.file("cloud.stim", stimulus())]
+    data = records.output("det", "record", *words)
+    files = [records.file("cloud.rec", data), records.file("other.rec", other_copy(data))]
+    assert records.run("det", "compare", *files).out == b"differ copy 1 element 94 56\n"
+    assert records.output("det", "check", files[0]).startswith(b"genuine 240\n")
+    width, height, scale = (float(it) for it in re.findall(r"[\d.]+", " ".join(SIZE)))
+    assert size_of(PICTURE.read_bytes()) == (width * scale, height * scale)
