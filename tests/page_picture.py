@@ -11,7 +11,6 @@ bit. These are more with each cycle, and their numbers grow. It needs Chromium.
 from __future__ import annotations
 
 import argparse
-import os
 import random
 import sys
 import tempfile
@@ -90,8 +89,7 @@ def main() -> int:
         (room / "other.rec").write_bytes(other_copy(data))
         words = ["cloud.rec", "other.rec", "--page", build_page(), "-o", "page.html"]
         make([sys.executable, "-B", TOP / "tools" / "det_page.py", *words], room)
-        as_root = ["--no-sandbox"] * (os.geteuid() == 0)
-        browser = [program(CHROMIUM), "--headless", *SIZE, *as_root]
+        browser = [program(CHROMIUM), "--headless", "--no-sandbox", *SIZE]
         make([*browser, f"--screenshot={PICTURE}", (room / "page.html").as_uri()], room)
     print(PICTURE)
     return 0
