@@ -121,29 +121,54 @@ done
 
 
 def test_two_folders(bench: Bench) -> None:
-    """Records of two folders are compared by their names; a missing one is a read fault."""
+    """Records of two folders are compared by their names; one that either lacks is a read fault."""
     path_of("parallel")
     write_records(bench, 4)
     shutil.copytree(bench.folder / "runs", bench.folder / "other")
     (bench.folder / "other" / "0001.rec").write_bytes(bench.example("bank"))
-    (bench.folder / "other" / "0002.rec").unlink()
+    (bench.folder / "other" / "0002.rec").rename(bench.folder / "other" / "0004.rec")
     given = shell(bench, 'bash "$many/compare_all.sh" runs other results')
     assert given.status == 1, str(given)
     assert given.out.decode().splitlines() == [
-        "records 4",
+        "records 5",
         "status 0 1",
         "status 1 1",
         "status 5 1",
-        "status 6 1",
+        "status 6 2",
         "1\truns/0001.rec other/0001.rec\tdiffer copy 1 element 2 2",
         "5\truns/0003.rec other/0003.rec\tbad record: copy 0 offset 300 truncated",
         "6\truns/0002.rec other/0002.rec\tread fault",
+        "6\truns/0004.rec other/0004.rec\tread fault",
     ]
     lines = (bench.folder / "results").read_text().splitlines()
-    genuine, differs, missing, torn = (line.split("\t")[3] for line in lines)
+    genuine, differs, missing, torn, new = (line.split("\t")[3] for line in lines)
     assert (genuine, differs) == ("", "")
     assert missing.startswith("other/0002.rec: No such file"), missing
+    assert new.startswith("runs/0004.rec: No such file"), new
     assert torn == "runs/0003.rec: in frame 4, the run of cycle 2"
+
+
+CHECK_USAGE = "usage: check_all.sh FOLDER RESULTS [JOBS]"
+COMPARE_USAGE = "usage: compare_all.sh FOLDER FOLDER RESULTS [JOBS]"
+
+
+@pytest.mark.parametrize(
+    "words, line",
+    (
+        ("check_all.sh", CHECK_USAGE),
+        ("check_all.sh runs", CHECK_USAGE),
+        ("check_all.sh runs results 2 3", CHECK_USAGE),
+        ("check_all.sh none results", "none is no folder"),
+        ("compare_all.sh runs runs", COMPARE_USAGE),
+        ("compare_all.sh runs none results", "none is no folder"),
+    ),
+)
+def test_wrong_words(bench: Bench, words: str, line: str) -> None:
+    """Wrong words and a missing folder are told in one line, and nothing is written."""
+    write_records(bench, 3)
+    given = shell(bench, f'bash "$many"/{words}')
+    assert given == Outcome(2, b"", f"{line}\n".encode()), str(given)
+    assert not (bench.folder / "results").exists()
 
 
 def task_names(bench: Bench, tasks: int) -> list[list[str]]:

@@ -6,7 +6,24 @@
 # each, in the order of LIST, and RESULTS.log is the job log of parallel: seconds, status and
 # command of each. Prints the summary, whose status it returns, or 3 if a name has no line, as when
 # its command was killed.
+#
+# The scripts end with that status, with 2 if their words are wrong, and with 3 if names can't be
+# listed.
 many=$(cd "$(dirname "${BASH_SOURCE[0]}")" && pwd)
+
+# Ends the script with a status and a line.
+fail() {
+    echo "$2" >&2
+    exit "$1"
+}
+
+# Ends the script if one of these is no folder.
+need_folders() {
+    local folder
+    for folder in "$@"; do
+        [ -d "$folder" ] || fail 2 "$folder is no folder"
+    done
+}
 
 run_all() {
     local list=$1 results=$2 jobs=$3 status=0 missing
