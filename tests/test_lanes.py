@@ -25,7 +25,8 @@ WITHIN, STOPPED_WITHIN = 30, 10
 LARGE = 100_000_000
 # What det_lane has on its own standard input.
 FOR_NO_CHILD = b"no child is given this\n"
-SPAWN_FAULT = Outcome(10, b"", b"spawn fault\n")
+NOT_STARTED = "spawn fault\n  {}: {}\n"
+KILLED = "spawn fault\n  child {} ended with signal: {}\n"
 # The most bytes of a line of a child, with its name, and what is left of them for its text.
 MOST_LINE = 4096
 MOST_TEXT = MOST_LINE - len("child 0: ")
@@ -75,13 +76,20 @@ CASES = [
         "a child that is killed before it writes",
         "[ $K = 1 ] || kill -9 $$; record",
         10,
-        err="spawn fault\n",
+        err=KILLED.format(1, "9 (SIGKILL)"),
     ),
     script(
         "a child that is killed after it wrote",
         "record; [ $K = 1 ] || kill -9 $$",
         10,
-        err="spawn fault\n",
+        err=KILLED.format(1, "9 (SIGKILL)"),
+    ),
+    script(
+        "of two that signals end the first is named",
+        "record; [ $K = 1 ] || kill -$((17 - K)) $$",
+        10,
+        err=KILLED.format(1, "15 (SIGTERM)"),
+        copies=3,
     ),
     script(
         "a child that ends with 3",
@@ -93,7 +101,7 @@ CASES = [
         "a child without a status counts before one that failed",
         "record; [ $K = 1 ] && exit 3; kill -9 $$",
         10,
-        err="spawn fault\n",
+        err=KILLED.format(1, "9 (SIGKILL)"),
     ),
     script(
         "a child that breaks off and fails",
@@ -176,7 +184,7 @@ ERRORS = [
         "the last words of a child that is killed",
         "[ $K = 1 ] || { printf help >&2; kill -9 $$; }; record",
         10,
-        err="child 1: help\nspawn fault\n",
+        err="child 1: help\n" + KILLED.format(1, "9 (SIGKILL)"),
     ),
     agrees(
         "a child without a standard error",
@@ -338,8 +346,20 @@ def test_large_record(lane: Lane) -> None:
     lane.check(script("", text, 0, f"agree {cycles}\n"), WITHIN)
 
 
-def test_missing_program(lane: Lane) -> None:
-    assert lane.run_lane("./nothing", 2, "m", "s") == SPAWN_FAULT
+@pytest.mark.parametrize(
+    "program, reason",
+    (
+        ("./nothing", "No such file or directory"),
+        ("no-such-program", "No such file or directory"),
+        ("./text", "Permission denied"),
+        (".", "Permission denied"),
+    ),
+)
+def test_not_started(lane: Lane, program: str, reason: str) -> None:
+    """A program that can't be started is named with the system's reason."""
+    lane.file("text", "no program")
+    given = lane.run_lane(program, 2, "m", "s")
+    assert given == Outcome(10, b"", NOT_STARTED.format(program, reason).encode())
 
 
 def test_refused_starts(lane: Lane) -> None:
@@ -354,5 +374,6 @@ def test_refused_starts(lane: Lane) -> None:
         given = without_children(given)
         statuses.add(given.status)
         assert not given.out, f"with {most} files: {given}"
-        assert (given.status == 10) == (given == SPAWN_FAULT), f"with {most} files: {given}"
+        is_fault = given.line() == b"spawn fault"
+        assert (given.status == 10) == is_fault, f"with {most} files: {given}"
     assert statuses >= {9, 10}
