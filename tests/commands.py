@@ -14,6 +14,8 @@ from children import run_within
 
 TOP = Path(__file__).resolve().parent.parent
 NAMES = ("det", "det_lane", "det_twin")
+# The tools in Python, which are installed beside them.
+TOOLS = ("det_record", "det_stimulus", "det_page")
 # The most seconds that one command of a test may take.
 LIMIT = 120
 # The user that a test takes where it must not be root.

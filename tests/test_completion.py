@@ -13,16 +13,18 @@ from pathlib import Path
 
 import pytest
 
-from commands import NAMES, TOP, Bench, Outcome, run
+from commands import NAMES, TOOLS, TOP, Bench, Outcome, run
 from test_pages import COMMANDS, OPTIONS, takes
 
 SOURCES = ("tools/*.py", "tools/completion.bash", "completions/*", "crates/*/src/*_usage.rt")
+STIMULUS_OPTIONS = {"--time", "--unit", "--event", "--scale", "--range", "--exact", "--delimiter"}
+STIMULUS_OPTIONS |= {"-o", "-h", "--help", "--version"}
 TEXTS = ("crates/*/src/pages.rt", "crates/cli_words/src/table.rt")
 SCRIPT = """source "$0"; COMP_WORDS=("$@"); COMP_CWORD=$(($# - 1))
 registered=$(complete -p "$1"); function=${registered#*-F }
 "${function%% *}"; printf '%s\\n' "${COMPREPLY[@]}"
 """
-FILES = ("a.toml", "b.toml", "a.stim", "a.rec", "b.rec", "folder/c.toml", "other/plain")
+FILES = ("a.toml", "b.toml", "a.stim", "a.rec", "b.rec", "a.csv", "folder/c.toml", "other/plain")
 NUMBERS = {str(it) for it in range(2, 9)}
 FIRST = {*COMMANDS, "help", "version"}
 MANIFESTS, FOLDERS = {"a.toml", "b.toml"}, {"folder", "other"}
@@ -78,6 +80,20 @@ OFFERS = {
     "det_twin 3 a.toml a.stim --flip ": set(),
     "det_twin 3 a.toml a.stim --flip 1 ": set(),
     "det_twin 3 a.toml a.stim --flip 1 4 ": {"--strict"},
+    "det_record ": RECORDS,
+    "det_record a.rec ": {"--csv", "--hdf5", "-h", "--help", "--version"},
+    "det_record --v": {"--version"},
+    "det_record a.rec --csv ": {"cycles", "elements", "samples"},
+    "det_record a.rec --csv cycles --": {"--help", "--version"},
+    "det_record a.rec --hdf5 a.": {"a.toml", "a.stim", "a.rec", "a.csv"},
+    "det_stimulus ": {"a.csv", *FOLDERS},
+    "det_stimulus a.csv ": STIMULUS_OPTIONS,
+    "det_stimulus a.csv --event 0=a ": STIMULUS_OPTIONS,
+    "det_stimulus a.csv --time t --": STIMULUS_OPTIONS - {"--time", "-o", "-h"},
+    "det_stimulus a.csv --unit ": {"ns", "us", "ms", "s"},
+    "det_stimulus a.csv --time ": set(),
+    "det_page a.rec b.rec ": RECORDS | {"-o", "--page", "-h", "--help", "--version"},
+    "det_page a.rec -o b": {"b.toml", "b.rec"},
 }
 
 
@@ -137,7 +153,7 @@ def copy(tmp_path: Path) -> Path:
 
 def test_files_are_those_of_their_sources() -> None:
     assert completion(TOP, "--check") == Outcome(0, b"", b"")
-    assert {it.name for it in (TOP / "completions").iterdir()} == set(NAMES)
+    assert {it.name for it in (TOP / "completions").iterdir()} == {*NAMES, *TOOLS}
 
 
 CHANGES = {

@@ -70,11 +70,12 @@ def test_tables_of_broken_records(name: str, records: RecordBench) -> None:
 
 
 def test_status_of_broken_record(records: RecordBench) -> None:
-    """A record that breaks off ends with 5 and the line of `show`, after the rows before it."""
+    """A record that breaks off ends with 5 and the line of `show`, after the rows before it. A hint
+    has the tool and the file."""
     file = records.file("torn.rec", record_of(records, "mixed2")[:-1])
     text, line = records.det("show", file)
     given = records.tool("det_record.py", file, "--csv", "cycles")
-    assert (given.status, given.err.decode()) == (5, line)
+    assert (given.status, given.err.decode()) == (5, f"{line}  {file}: read by det_record\n")
     assert given.out.count(b"\n") == 1 + len(Shown(text.decode()).cycles)
 
 
@@ -156,6 +157,11 @@ def test_large_numbers(records: RecordBench) -> None:
 
 def limit_memory() -> None:
     resource.setrlimit(resource.RLIMIT_AS, (MOST_MEMORY, MOST_MEMORY))
+
+
+def limit_files(most: int) -> None:
+    """No file of this process can become longer."""
+    resource.setrlimit(resource.RLIMIT_FSIZE, (most, most))
 
 
 @pytest.mark.slow
@@ -336,6 +342,30 @@ def test_hdf5_in_pieces(records: RecordBench) -> None:
         )
 
 
+@pytest.mark.parametrize("most", (1 << 10, 1 << 11, 1 << 13, 1 << 14))
+def test_hdf5_that_cannot_be_written(most: int, records: RecordBench) -> None:
+    """Wherever a file becomes too large, there is one line, and the file stays as it was."""
+    need_hdf5()
+    records.file("a.h5", "as before")
+    file = records.file("a.rec", records.example("wheels"))
+    how: dict[str, Any] = {"preexec_fn": lambda: limit_files(most)}
+    given = records.tool("det_record.py", file, "--hdf5", "a.h5", **how)
+    assert given == Outcome(7, b"", b"det_record: a.h5: write fault: File too large\n"), given.err
+    assert (records.folder / "a.h5").read_text() == "as before"
+    assert sorted(it.name for it in records.folder.iterdir()) == ["a.h5", "a.rec"]
+
+
+def test_hdf5_of_a_pipe(records: RecordBench) -> None:
+    """A pipe can't be read twice, and a line says so."""
+    need_hdf5()
+    words = ["bash", "-c", 'cat "$1" | "$2" -B "$3" /dev/stdin --hdf5 a.h5', "-"]
+    file = records.file("a.rec", records.example("bank"))
+    given = run([*words, file, sys.executable, TOP / "tools" / "det_record.py"], records.folder)
+    line = b"det_record: /dev/stdin: read fault: --hdf5 reads a record twice: "
+    assert given.status == 6 and given.err.startswith(line), str(given)
+    assert given.err.count(b"\n") == 1 and not (records.folder / "a.h5").exists()
+
+
 def test_without_h5py(records: RecordBench) -> None:
     """Without h5py there is a line with the Debian package, and a status of its own."""
     (records.folder / "h5py.py").write_text("raise ImportError('no h5py')\n")
@@ -343,8 +373,7 @@ def test_without_h5py(records: RecordBench) -> None:
     environment = dict(os.environ, PYTHONPATH=str(records.folder))
     words = [sys.executable, TOP / "tools" / "det_record.py", file]
     given = run([*words, "--hdf5", "a.h5"], records.folder, environment)
-    assert given == Outcome(
-        11, b"", b"no h5py: install the Debian package python3-h5py\n"
-    ), f"{given.err!r}"
+    line = "det_record: no h5py: install the Debian package python3-h5py, and call /usr/bin/python3"
+    assert given == Outcome(11, b"", f"{line}\n".encode()), f"{given.err!r}"
     assert not (records.folder / "a.h5").exists()
     assert run([*words, "--csv", "cycles"], records.folder, environment).status == 0

@@ -152,7 +152,8 @@ def test_refused_tables(table: str, words: tuple, line: Any, records: RecordBenc
         assert given.status == to_file.status == 0 and kept == given.out.decode(), str(given)
         return
     assert (given.status, given.out, to_file.status) == (4, b"", 4), str(given)
-    assert given.err.decode().startswith("det_stimulus: bad table: ") and line in given.err.decode()
+    beginning = f"det_stimulus: {records.folder}/log.csv: bad table: "
+    assert given.err.decode().startswith(beginning) and line in given.err.decode()
     assert to_file.err == given.err and kept == "as before"
     assert sorted(it.name for it in records.folder.iterdir()) == ["kept.stim", "log.csv"]
 

@@ -7,7 +7,7 @@ from pathlib import Path
 
 import pytest
 
-from commands import NAMES, TOP, Bench, Outcome, Programs, run
+from commands import NAMES, TOOLS, TOP, Bench, Outcome, Programs, run
 
 PREFIX = "/opt/of det"
 OWN_FOLDERS = ("share/det", "share/doc/det", "include/det", "lib/cmake/deterministic_client")
@@ -34,8 +34,7 @@ def files_of_package() -> list[str]:
     found += [f"include/det/exec/{it.name}" for it in (TOP / "include/det/exec").glob("*.h")]
     adapter = (TOP / "include/ara/exec").glob("*.h")
     found += [f"include/det/adapter/ara/exec/{it.name}" for it in adapter]
-    tools = ["bin/det_record", "bin/det_stimulus", "bin/det_page"]
-    return found + tools
+    return found + [f"bin/{it}" for it in TOOLS]
 
 
 def wrong_modes(root: Path) -> list[str]:
@@ -71,9 +70,10 @@ def test_install_and_uninstall(bench: Bench, library: Path) -> None:
     assert [it for it in files_of_package() if not (root / it).is_file()] == []
     for name in NAMES:
         assert run([root / "bin" / name, "--version"], root, {}).out == version_line(name)
-    for tool in ("det_record", "det_stimulus", "det_page"):
+    for tool in TOOLS:
         file = root / "share/det/tools" / f"{tool}.py"
-        assert run(["python3", "-B", file, "--help"], root).status == 0, tool
+        given = run(["python3", "-B", file, "--version"], root)
+        assert given == Outcome(0, version_line(tool), b"")
     make_other(root)
     second = run_installer(bench.programs, bench.folder, "--uninstall")
     assert not second.status, str(second)

@@ -16,7 +16,7 @@ from pathlib import Path
 
 import pytest
 
-from commands import NAMES, TOP, Bench, Outcome, make, run
+from commands import NAMES, TOOLS, TOP, Bench, Outcome, make, run
 from cpp_bench import CppBench, need
 from documents import text_of
 from test_cpp_packages import LINE, check_tracker
@@ -25,7 +25,6 @@ VERSION = text_of("VERSION").strip()
 LIBRARY = "libdeterministic-client-dev"
 PACKAGES = ("det", LIBRARY)
 LIBDIR = "usr/lib/x86_64-linux-gnu"
-TOOLS = ("det_record", "det_stimulus", "det_page")
 # Files that each package has at least.
 FILES = {
     "det": [
@@ -161,12 +160,16 @@ def test_programs(bench: Bench, packages: Unpacked) -> None:
 
 
 def test_tool(bench: Bench, packages: Unpacked) -> None:
-    """A tool in Python runs with the modules of the package alone."""
+    """A tool in Python runs with the modules of the package alone, and has its version."""
     record = bench.file("guard.rec", bench.example("guard"))
     tool = packages.root / "usr/share/det/tools/det_record.py"
     ours, given = (run(["python3", "-B", it, record], bench.folder) for it in (SOURCE_TOOL, tool))
     assert ours.status == 0 and ours.out, str(ours)
     assert given == ours
+    for name in TOOLS:
+        words = ["python3", "-B", tool.with_name(f"{name}.py"), "--version"]
+        given = run(words, bench.folder)
+        assert given == Outcome(0, f"{name} {VERSION}\n".encode(), b"")
 
 
 def test_manual_pages(packages: Unpacked) -> None:

@@ -1,5 +1,5 @@
-"""The page for a browser as a file: its scripts, the tool that puts records into it, and pictures
-of it by the commands of the tutorial."""
+"""The page for a browser as a file: its scripts, and pictures of it by the commands of the
+tutorial."""
 
 from __future__ import annotations
 
@@ -45,27 +45,6 @@ def test_script_is_short(name: str) -> None:
     functions = [*FUNCTION.findall(text), *METHOD.findall(text)]
     assert functions
     assert [it for it in functions if len(it.splitlines()) > MOST_LINES_OF_FUNCTION] == []
-
-
-@pytest.mark.parametrize("count", (0, 9))
-def test_wrong_numbers_of_records(count: int, page: Path, records: RecordBench) -> None:
-    files = [records.file(f"{k}.rec", b"") for k in range(count)]
-    given = records.tool("det_page.py", *files, "--page", str(page))
-    line = f"det_page: {count} records: a page takes one to 8\n"
-    assert (given.status, given.out, given.err.decode()) == (2, b"", line)
-
-
-def test_files_that_are_not_there(page: Path, records: RecordBench) -> None:
-    record = records.file("a.rec", b"")
-    given = records.tool("det_page.py", "none.rec", "--page", str(page))
-    line = b"det_page: can't read none.rec: No such file or directory\n"
-    assert (given.status, given.err) == (6, line)
-    given = records.tool("det_page.py", record, "--page", record)
-    line = f"det_page: {record} is not a page that takes records\n".encode()
-    assert (given.status, given.err) == (6, line)
-    given = records.tool("det_page.py", record, "--page", str(page), "-o", "none/page.html")
-    line = b"det_page: can't write the page: No such file or directory\n"
-    assert (given.status, given.err) == (7, line)
 
 
 def picture_of(page: Path, browser: str) -> bytes:

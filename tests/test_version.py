@@ -15,7 +15,7 @@ from pathlib import Path
 import pytest
 
 import build_page
-from commands import TOP, make, run
+from commands import TOOLS, TOP, Outcome, make, run
 from cpp_bench import CppBench, need
 from documents import text_of
 
@@ -85,6 +85,17 @@ def test_library(cpp: CppBench) -> None:
     assert cpp.output_of([program]) == f"{number}\n".encode()
 
 
+def tool_version(top: Path, tool: str) -> Outcome:
+    """What a tool in Python says below a folder like the top."""
+    return run(["python3", "-B", top / "tools" / f"{tool}.py", "--version"], top)
+
+
+@pytest.mark.parametrize("tool", TOOLS)
+def test_tool(tool: str) -> None:
+    """The tools in Python print a line as the programs do."""
+    assert tool_version(TOP, tool) == Outcome(0, f"{tool} {VERSION}\n".encode(), b"")
+
+
 def copy_installer(to: Path, version: str) -> None:
     """The installer with what it needs for the library, with another version."""
     for name in ("tools", "cpp", "include"):
@@ -110,7 +121,8 @@ def test_page(folder: Path, monkeypatch: pytest.MonkeyPatch) -> None:
 
 
 def test_told_once(folder: Path) -> None:
-    """With another file VERSION the installed files for pkg-config and CMake have that version."""
+    """With another file VERSION the installed files for pkg-config and CMake have that version, and
+    so have the tools in Python, which end with 6 without that file."""
     need("cmake", "pkg-config")
     copy_installer(folder / "top", "7.8.9")
     words = ["python3", "-B", folder / "top/tools/install.py", "--prefix", folder / "to"]
@@ -122,3 +134,8 @@ def test_told_once(folder: Path) -> None:
     package = folder / "to/lib/cmake/deterministic_client/deterministic_client-config-version.cmake"
     script.write_text(f'include("{package}")\nmessage(NOTICE "${{PACKAGE_VERSION}}")\n')
     assert run(["cmake", "-P", script], folder).err == b"7.8.9\n"
+    for tool in TOOLS:
+        assert tool_version(folder / "top", tool).out == f"{tool} 7.8.9\n".encode()
+    (folder / "top/VERSION").unlink()
+    line = f"det_page: {folder}/top/VERSION: read fault: No such file or directory\n"
+    assert tool_version(folder / "top", "det_page") == Outcome(6, b"", line.encode())

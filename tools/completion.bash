@@ -1,8 +1,9 @@
-# Completion of @NAME@ for bash. Made by tools/completion.py from what `@NAME@ --help` prints.
+# Completion of @NAME@ for bash. Made by tools/completion.py from @SOURCE@.
 # shellcheck shell=bash disable=SC2034,SC2207
 
 # What a command takes: its names in order, how many at most, and its options. An option is
 # WORD:VALUES, with the number of values after it, and after another colon each that it excludes.
+# With a plus after the number it may be given again.
 _@NAME@_call() {
     case $1 in
 @CALLS@
@@ -26,11 +27,20 @@ _@NAME@_name() {
     MANIFEST) _@NAME@_files toml ;;
     STIM) _@NAME@_files stim ;;
     RECORD) _@NAME@_files rec ;;
+    LOG.csv) _@NAME@_files csv ;;
+    FILE) _@NAME@_files '' ;;
     COPIES) COMPREPLY=($(compgen -W '@COPIES@' -- "$current")) ;;
     PROGRAM)
         compopt -o filenames 2>/dev/null
         mapfile -t COMPREPLY < <(compgen -c -- "$current" | sort -u)
         ;;
+    esac
+}
+
+# Offers what the value of an option can be.
+_@NAME@_value() {
+    case $1 in
+@VALUES@
     esac
 }
 
@@ -44,7 +54,7 @@ _@NAME@_options() {
 }
 
 # Reads the words between the command and the one that is typed: `count` names were given, no option
-# of `excluded` may follow, and `due` values of the last one are missing.
+# of `excluded` may follow, and `due` values of the option `last` are missing.
 _@NAME@_read() {
     local at option word values others
     for ((at = $1; at < COMP_CWORD; at++)); do
@@ -55,7 +65,9 @@ _@NAME@_read() {
         for option in "${options[@]}"; do
             IFS=: read -r word values others <<<"$option"
             if [[ ${COMP_WORDS[at]} == "$word" ]]; then
-                due=$values excluded+=":$word:$others:"
+                due=${values%+} last=$word
+                [[ $values == *+ ]] || excluded+=":$word:"
+                excluded+=":$others:"
                 continue 2
             fi
         done
@@ -66,7 +78,7 @@ _@NAME@_read() {
 _@NAME@() {
     local commands='@COMMANDS@'
     local own='@OWN_WORDS@' dashed='@DASHED@'
-    local names=() most=0 options=() count=0 due=0 excluded=''
+    local names=() most=0 options=() count=0 due=0 last='' excluded=''
     local current=${COMP_WORDS[COMP_CWORD]} first=1 command='' name
     COMPREPLY=()
     if [[ $commands ]]; then
@@ -76,7 +88,7 @@ _@NAME@() {
             return
         fi
     fi
-    if ((COMP_CWORD == 1)) && [[ $commands || $current == -* ]]; then
+    if ((COMP_CWORD == 1)) && [[ $commands || ($own && $current == -*) ]]; then
         # Without a beginning, only words that say what to do.
         [[ $current ]] && own+=" $dashed"
         COMPREPLY=($(compgen -W "$commands $own" -- "$current"))
@@ -84,7 +96,10 @@ _@NAME@() {
     fi
     _@NAME@_call "$command" || return 0
     _@NAME@_read "$first"
-    if ((due)); then return 0; fi
+    if ((due)); then
+        _@NAME@_value "$last"
+        return 0
+    fi
     if [[ $current == -* ]]; then
         _@NAME@_options
         if [[ $commands ]] && ((COMP_CWORD == 2)); then

@@ -2,25 +2,28 @@
 """Makes the completions for bash from the programs' own texts.
 
     python3 tools/completion.py            lists the files that differ from what their sources give
-    python3 tools/completion.py --write    writes completions/det, det_lane and det_twin
+    python3 tools/completion.py --write    writes completions/det, det_lane, det_record ..
     python3 tools/completion.py --check    ends with 1 if a file differs
 
 The synopses of the programs' texts give commands, names and options: what `--help` and
 `--help COMMAND` print, as tools/manual.py reads it. How many names a command takes at most is in
-the table of crates/cli_words. tools/completion.bash has the code, which is the same for each
-program. A word in capitals is a name, and its own word says what is offered for it: files for
-MANIFEST, STIM and RECORD, commands for PROGRAM, numbers for COPIES, and nothing for a number.
-Python's standard library is all that this needs.
+the table of crates/cli_words. Of the tools in Python, their parsers give names, options and what
+these can be. tools/completion.bash has the code, which is the same for each program. A word in
+capitals is a name, and its own word says what is offered for it: files for MANIFEST, STIM, RECORD
+and FILE, commands for PROGRAM, numbers for COPIES, and nothing for a number. Python's standard
+library is all that this needs.
 """
 
 from __future__ import annotations
 
 import argparse
+import importlib
 import re
 import sys
 from dataclasses import dataclass, replace
 from typing import Iterator
 
+from install import TOOLS
 from manual import PROGRAMS, TOP, Texts, Unfit, command_order, first_lines, texts_of
 
 TABLE = TOP / "crates" / "cli_words" / "src" / "table.rt"
@@ -29,17 +32,25 @@ ROW = re.compile(r'CommandRow::files\("([a-z]+)", \d+, (\d+),')
 TOKEN = re.compile(r"[][|]|[^][|\s]+")
 COPIES = re.compile(r"COPIES +the number of copies, (\d+) to (\d+)")
 ALSO = re.compile(r"(?<![\w-])(?:-[A-Za-z]|[a-z]+)(?![\w-])")
-# How many values an option has that takes all further words.
+# How many values an option has that takes all further words, and how many names a tool takes.
 MANY = 99
+# Nothing is offered for the value of another option.
+OTHERS = "    *) ;;"
 
 
 @dataclass(frozen=True)
 class Option:
-    """An option: its word, how many values follow it, and which others it excludes."""
+    """An option: its word, how many values follow it, which others it excludes, and whether it may
+    be given again."""
 
     word: str
     values: int
     excludes: list[str]
+    again: bool = False
+
+    def __str__(self) -> str:
+        values = f"{self.values}{'+' if self.again else ''}"
+        return ":".join([self.word, values, *self.excludes])
 
 
 @dataclass(frozen=True)
@@ -118,8 +129,8 @@ def array(words: list[str]) -> str:
 
 def arm(word: str, call: Call) -> str:
     """The line that says what a command takes."""
-    options = [":".join([it.word, str(it.values), *it.excludes]) for it in call.options]
-    takes = f"names={array(call.names)} most={call.most} options={array(options)}"
+    options = array([str(it) for it in call.options])
+    takes = f"names={array(call.names)} most={call.most} options={options}"
     pattern = word if word else "*"
     return f"    {pattern}) {takes} ;;"
 
@@ -130,24 +141,71 @@ def numbers(usage: str) -> str:
     return " ".join(map(str, range(int(found[1]), int(found[2]) + 1))) if found else ""
 
 
+def filled(values: dict[str, str]) -> str:
+    """The code with what it says of a program."""
+    made = CODE.read_text(encoding="utf-8")
+    for key, value in values.items():
+        made = made.replace(f"@{key}@", value)
+    return made
+
+
 def completion_of(name: str) -> str:
     """The file of a program."""
     texts = texts_of(name)
     calls, own = calls_of(name, texts), own_words(name, texts)
     commands = [it for it in calls if it]
     arms = [arm(word, call) for word, call in calls.items()]
-    values = {
+    return filled({
+        "SOURCE": f"what `{name} --help` prints",
         "NAME": name,
         "COMMANDS": " ".join(commands),
         "OWN_WORDS": " ".join(it for it in own if not it.startswith("-")),
         "DASHED": " ".join(it for it in own if it.startswith("-")),
         "COPIES": numbers(texts.usage),
+        "VALUES": OTHERS,
         "CALLS": "\n".join(arms + ["    *) return 1 ;;"] * bool(commands)),
-    }
-    made = CODE.read_text(encoding="utf-8")
-    for key, value in values.items():
-        made = made.replace(f"@{key}@", value)
-    return made
+    })
+
+
+def excluded(parser: argparse.ArgumentParser, action: argparse.Action) -> list[str]:
+    """The other options of a group of which one may be given."""
+    groups = [it._group_actions for it in parser._mutually_exclusive_groups]
+    others = [it for group in groups if action in group for it in group if it is not action]
+    return [word for it in others for word in it.option_strings]
+
+
+def value_arm(name: str, action: argparse.Action) -> str:
+    """The line that says what an option's value can be."""
+    if action.choices:
+        words = " ".join(map(str, action.choices))
+        offered = f"COMPREPLY=($(compgen -W '{words}' -- \"$current\"))"
+    else:
+        offered = f"_{name}_name FILE"
+    return f"    {' | '.join(action.option_strings)}) {offered} ;;"
+
+
+def completion_of_tool(name: str) -> str:
+    """The file of a tool in Python."""
+    parser = importlib.import_module(name).parser()
+    given = [it for it in parser._actions if it.option_strings]
+    (names,) = [it for it in parser._actions if not it.option_strings]
+    options = [
+        Option(word, int(it.nargs != 0), excluded(parser, it), isinstance(it.default, list))
+        for it in given
+        for word in it.option_strings
+    ]
+    most = 1 if names.nargs is None else MANY
+    values = [value_arm(name, it) for it in given if it.choices or it.metavar == "FILE"]
+    return filled({
+        "SOURCE": f"the parser of tools/{name}.py",
+        "NAME": name,
+        "COMMANDS": "",
+        "OWN_WORDS": "",
+        "DASHED": "",
+        "COPIES": "",
+        "VALUES": "\n".join([*values, OTHERS]),
+        "CALLS": arm("", Call([str(names.metavar)], most, options)),
+    })
 
 
 def main() -> int:
@@ -156,10 +214,12 @@ def main() -> int:
     parser.add_argument("--check", action="store_true", help="ends with 1 if a file differs")
     given = parser.parse_args()
     try:
-        files = {TOP / "completions" / name: completion_of(name) for name in PROGRAMS}
+        texts = {it: completion_of(it) for it in PROGRAMS}
+        texts.update({it: completion_of_tool(it) for it in TOOLS})
     except (Unfit, OSError) as why:
         print(f"completion: {why}", file=sys.stderr)
         return 1
+    files = {TOP / "completions" / name: text for name, text in texts.items()}
     old = [path for path, it in files.items() if not path.is_file() or path.read_text() != it]
     for path in old:
         if given.write:

@@ -6,9 +6,14 @@
 
 One to eight records become part of one file, which a build can keep as an artifact. A browser shows
 them when it opens the file, without a network. A record with a fault is shown up to it. `--page` is
-the page to take; without it, the installed one or the one that `make page` built. Ends with 2 for
-wrong words, with 6 if a file can't be read, and with 7 if the page can't be written.
-Python's standard library is all that it needs.
+the page to take; without it, the installed one or the one that `make page` built. With -o the file
+is there once it is whole.
+
+Exit statuses: 0 done; 2 bad words; 6 a record or the page without records can't be read; 7 the
+page can't be written. On standard error, 2 is `det_page: bad words: WHY`, 6 is `det_page: NAME:
+read fault: WHY` with the name of the file, and 7 is `det_page: FILE: write fault: WHY`, with the
+first RECORD in place of FILE if it is standard output. Python's standard library is all that it
+needs.
 """
 
 from __future__ import annotations
@@ -21,37 +26,30 @@ import sys
 from pathlib import Path
 from typing import Optional, Sequence
 
+from det_tool import BadWords, Parser, ReadFault
+from det_tool import check_output, reading, run_tool, standard_output, write_file
+
 MOST_RECORDS = 8
-BAD_WORDS, NOT_READ, NOT_WRITTEN = 2, 6, 7
 MARK = "<!--EMBEDDED-->"
+PAGE = "det_page.html"
 HERE = Path(__file__).resolve().parent
 # Where the page is beside an installed tool, and in a repository.
-PAGES = (HERE.parent / "det_page.html", HERE.parent / "out" / "page" / "det_page.html")
-
-
-class Failed(Exception):
-    """The page isn't made: a status, and a line that says why."""
-
-    def __init__(self, status: int, line: str) -> None:
-        super().__init__(line)
-        self.status = status
+PAGES = (HERE.parent / PAGE, HERE.parent / "out" / "page" / PAGE)
 
 
 def read(path: Path) -> bytes:
-    try:
+    with reading(path):
         return path.read_bytes()
-    except OSError as why:
-        raise Failed(NOT_READ, f"can't read {path}: {why.strerror}") from why
 
 
 def empty_page(given: Optional[Path]) -> str:
     """The page without records."""
     path = given or next((it for it in PAGES if it.is_file()), None)
     if path is None:
-        raise Failed(NOT_READ, "the page isn't built: `make page` builds it")
+        raise ReadFault(PAGE, "the page isn't built: `make page` builds it")
     page = read(path).decode(errors="replace")
     if page.count(MARK) != 1:
-        raise Failed(NOT_READ, f"{path} is not a page that takes records")
+        raise ReadFault(path, "it isn't a page that takes records")
     return page
 
 
@@ -62,40 +60,31 @@ def record_element(path: Path) -> str:
     return f'<script type="text/plain" class="record" data-name="{name}">{data}</script>'
 
 
-def page_with(records: Sequence[Path], page: Optional[Path]) -> bytes:
+def page_with(records: Sequence[Path], page: Optional[Path]) -> str:
     if not 1 <= len(records) <= MOST_RECORDS:
-        raise Failed(BAD_WORDS, f"{len(records)} records: a page takes one to {MOST_RECORDS}")
+        raise BadWords(f"{len(records)} records: a page takes one to {MOST_RECORDS}")
     before, after = empty_page(page).split(MARK)
-    return "\n".join([before, *map(record_element, records), after]).encode()
+    return "\n".join([before, *map(record_element, records), after])
 
 
-def write(data: bytes, out: Optional[Path]) -> None:
-    try:
-        if out:
-            out.write_bytes(data)
-        else:
-            sys.stdout.buffer.write(data)
-            sys.stdout.buffer.flush()
-    except OSError as why:
-        os.dup2(os.open(os.devnull, os.O_WRONLY), 1)  # so that the end writes nothing
-        raise Failed(NOT_WRITTEN, f"can't write the page: {why.strerror}") from why
+def parser() -> Parser:
+    made = Parser("det_page", __doc__)
+    made.add_argument("records", metavar="RECORD", nargs="*", type=Path)
+    made.add_argument("-o", dest="out", metavar="FILE", help="not standard output")
+    made.add_argument("--page", metavar="FILE", type=Path, help="the page without records")
+    return made
 
 
-def main() -> int:
-    parser = argparse.ArgumentParser(
-        description=__doc__, formatter_class=argparse.RawDescriptionHelpFormatter
-    )
-    parser.add_argument("records", metavar="RECORD", nargs="*", type=Path)
-    parser.add_argument("-o", dest="out", metavar="FILE", type=Path, help="not standard output")
-    parser.add_argument("--page", metavar="FILE", type=Path, help="the page without records")
-    given = parser.parse_args()
-    try:
-        write(page_with(given.records, given.page), given.out)
-    except Failed as why:
-        print(f"det_page: {why}", file=sys.stderr)
-        return why.status
+def work(given: argparse.Namespace) -> int:
+    check_output("-o", given.out, given.records)
+    page = page_with(given.records, given.page)
+    if given.out is not None:
+        write_file(given.out, [page])
+        return 0
+    with standard_output(given.records[0]) as out:
+        out.write(page)
     return 0
 
 
 if __name__ == "__main__":
-    sys.exit(main())
+    sys.exit(run_tool(parser(), work))

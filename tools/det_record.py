@@ -9,7 +9,10 @@
 
 Exit statuses: 0 done; 2 bad words; 5 the record has a fault, whose line is that of `det show`, and
 what is before it was written; 6 the record can't be read; 7 the result can't be written; 11 python3
-has no h5py, which only --hdf5 needs. As a module:
+has no h5py, which only --hdf5 needs. On standard error, 2 is `det_record: bad words: WHY`, 6 is
+`det_record: RECORD: read fault: WHY`, and 7 is `det_record: FILE: write fault: WHY`, with RECORD in
+place of FILE if it is standard output. The line of 5 is followed by `  RECORD: read by det_record`.
+As a module:
 
     with open(name, "rb") as stream:
         for item in RecordReader(stream).items():
@@ -23,11 +26,13 @@ Python's standard library is all that it needs.
 from __future__ import annotations
 
 import argparse
-import os
 import sys
+from contextlib import redirect_stderr
 from dataclasses import dataclass
-from typing import Iterator, Optional, TextIO
+from typing import Iterator, Optional
 
+from det_tool import BAD_RECORD, NO_PACKAGE, Failed, Parser, ReadFault
+from det_tool import check_output, reading, reason_of, report, run_tool, standard_output
 from record_csv import TABLES, write_csv
 from record_reader import Readable, RecordReader
 from record_values import (
@@ -70,7 +75,8 @@ __all__ = [
     "Terminate",
 ]
 
-STANDARD_OUTPUT = 1
+NAME = "det_record"
+WITHOUT_H5PY = "install the Debian package python3-h5py, and call /usr/bin/python3"
 
 
 @dataclass
@@ -147,48 +153,38 @@ def header_lines(header: Header) -> Iterator[str]:
         yield f"event {number} {event.name} {event.capacity} {event.policy}"
 
 
-class ReadFault(Exception):
-    """The record can't be read; the text says why."""
-
-
-class NoPackage(Exception):
-    """A module lacks; the text says which package has it."""
-
-
 class Source:
-    """The bytes of a file. A failed read isn't an OSError, as a failed write is."""
+    """The bytes of a file. A failed read is another error than a failed write."""
 
     def __init__(self, name: str) -> None:
-        try:
+        self.name = name
+        with reading(name):
             self.stream = open(name, "rb")
-        except OSError as error:
-            raise ReadFault(error) from error
 
     def read(self, size: int) -> bytes:
-        try:
+        with reading(self.name):
             return self.stream.read(size)
-        except OSError as error:
-            raise ReadFault(error) from error
 
     def rewind(self) -> None:
         try:
             self.stream.seek(0)
         except OSError as error:
-            raise ReadFault(f"{error}: --hdf5 reads a record twice") from error
+            why = f"--hdf5 reads a record twice: {reason_of(error)}"
+            raise ReadFault(self.name, why) from error
 
 
 def print_summary(source: Source) -> Optional[BadRecord]:
     summary = Summary()
     for _ in summary.read(source):
         pass
-    with standard_output() as out:
+    with standard_output(source.name) as out:
         out.writelines(f"{line}\n" for line in summary.lines())
     return summary.fault
 
 
 def print_table(source: Source, table: str) -> Optional[BadRecord]:
     summary = Summary()
-    with standard_output() as out:
+    with standard_output(source.name) as out:
         write_csv(table, summary.read(source), out)
     return summary.fault
 
@@ -198,60 +194,40 @@ def export(source: Source, name: str) -> Optional[BadRecord]:
     try:
         from record_hdf5 import ChangedRecord, write_hdf5
     except ImportError as error:
-        raise NoPackage(f"{error}: install the Debian package python3-h5py") from error
+        raise Failed(NO_PACKAGE, f"{error}: {WITHOUT_H5PY}") from error
     try:
-        return write_hdf5(source, source.rewind, name)
+        # If a write fails, h5py prints more for each of its objects.
+        with redirect_stderr(None):
+            return write_hdf5(source, source.rewind, name)
     except ChangedRecord as error:
-        raise ReadFault("the record was changed while it was read") from error
+        raise ReadFault(source.name, "it was changed while it was read") from error
 
 
-def standard_output() -> TextIO:
-    """Standard output, which may be closed."""
-    return open(STANDARD_OUTPUT, "w", encoding="ascii", newline="", closefd=False)
-
-
-def fail(status: int, line: str) -> int:
-    print(line, file=sys.stderr)
-    return status
-
-
-def is_same_file(one: str, other: str) -> bool:
-    return os.path.exists(other) and os.path.exists(one) and os.path.samefile(one, other)
-
-
-def arguments() -> argparse.Namespace:
-    parser = argparse.ArgumentParser(
-        description=__doc__, formatter_class=argparse.RawDescriptionHelpFormatter
-    )
-    parser.add_argument("record", metavar="RECORD")
-    forms = parser.add_mutually_exclusive_group()
+def parser() -> Parser:
+    made = Parser(NAME, __doc__)
+    made.add_argument("record", metavar="RECORD")
+    forms = made.add_mutually_exclusive_group()
     forms.add_argument("--csv", choices=TABLES, help="a table on standard output")
     forms.add_argument("--hdf5", metavar="FILE", help="an HDF5 file; RECORD is read twice")
-    given = parser.parse_args()
-    if given.hdf5 and is_same_file(given.record, given.hdf5):
-        parser.error("FILE is the record itself")
-    return given
+    return made
 
 
-def run(given: argparse.Namespace) -> Optional[BadRecord]:
+def write_form(given: argparse.Namespace) -> Optional[BadRecord]:
+    """Writes the form that was asked for. Returns the record's fault."""
+    check_output("--hdf5", given.hdf5, [given.record])
     source = Source(given.record)
     if given.csv:
         return print_table(source, given.csv)
     return export(source, given.hdf5) if given.hdf5 else print_summary(source)
 
 
-def main() -> int:
-    given = arguments()
-    try:
-        fault = run(given)
-    except ReadFault as error:
-        return fail(6, f"read fault: {error}")
-    except NoPackage as error:
-        return fail(11, str(error))
-    except (OSError, RuntimeError) as error:
-        return fail(7, f"write fault: {error}")
-    return 0 if fault is None else fail(5, f"bad record: copy 0 {fault}")
+def work(given: argparse.Namespace) -> int:
+    fault = write_form(given)
+    if fault is None:
+        return 0
+    report(f"bad record: copy 0 {fault}", f"  {given.record}: read by {NAME}")
+    return BAD_RECORD
 
 
 if __name__ == "__main__":
-    sys.exit(main())
+    sys.exit(run_tool(parser(), work))

@@ -13,42 +13,31 @@ cells in a column of --event a sample.
 - An empty cell is no sample. An empty line is no row. Spaces around a cell are dropped.
 
 Rows are read one at a time. The stimulus goes to a temporary file first: if a row is refused,
-nothing is written. Exit statuses: 0 done; 2 bad words; 4 a refused table, whose line and column are
-on standard error; 6 the table can't be read; 7 the stimulus can't be written. Python's standard
-library is all that it needs.
+nothing is written. Exit statuses: 0 done; 2 bad words; 4 a refused table; 6 the table can't be
+read; 7 the stimulus can't be written. On standard error, 2 is `det_stimulus: bad words: WHY`, 4 is
+`det_stimulus: LOG.csv: bad table: line N column C: WHY`, 6 is `det_stimulus: LOG.csv: read fault:
+WHY`, and 7 is `det_stimulus: FILE: write fault: WHY`, with LOG.csv in place of FILE if it is
+standard output. Python's standard library is all that it needs.
 """
 
 from __future__ import annotations
 
 import argparse
 import csv
-import os
 import shutil
 import sys
 import tempfile
 from dataclasses import dataclass
-from pathlib import Path
 from typing import IO, Callable, Iterator, Optional, Sequence, TypeVar
 
+from det_tool import BAD_TABLE, BadWords, Failed, Parser, ReadFault
+from det_tool import check_output, reading, run_tool, standard_output, write_file, writing
 from stimulus_values import MOST_VALUE, UNITS, BadCell, Rule, factor_of, time_of, whole_of
 
 MOST_CYCLES = 1_000_000
 MOST_SAMPLES = 4_096
 MOST_EVENTS = 256
-STANDARD_OUTPUT = 1
 Given = TypeVar("Given")
-
-
-class BadWords(Exception):
-    """The arguments don't fit; the text says why."""
-
-
-class BadTable(Exception):
-    """The table is refused; the text has the line, the column and why."""
-
-
-class ReadFault(Exception):
-    """The table can't be read; the text says why."""
 
 
 @dataclass(frozen=True)
@@ -117,13 +106,15 @@ def plan_of(given: argparse.Namespace) -> Plan:
 class Table:
     """The rows of a table, read one at a time."""
 
-    def __init__(self, stream: IO[str], delimiter: str) -> None:
+    def __init__(self, stream: IO[str], name: str, delimiter: str) -> None:
+        self.name = name
         self.reader = csv.reader(stream, delimiter=delimiter, strict=True)
         self.names = next(self.rows(), [])
 
-    def refused(self, why: str, column: str = "") -> BadTable:
-        place = f" column {column}" if column else ""
-        return BadTable(f"line {max(self.reader.line_num, 1)}{place}: {why}")
+    def refused(self, why: str, column: str = "") -> Failed:
+        """The table is refused at this line, and at a column of this name."""
+        place = f"line {max(self.reader.line_num, 1)}" + (f" column {column}" if column else "")
+        return Failed(BAD_TABLE, f"{self.name}: bad table: {place}: {why}")
 
     def rows(self) -> Iterator[list[str]]:
         """Rows without spaces around their cells. Empty lines are left out."""
@@ -133,7 +124,7 @@ class Table:
             except csv.Error as error:
                 raise self.refused(f"it isn't CSV: {error}") from error
             except OSError as error:
-                raise ReadFault(error) from error
+                raise ReadFault(self.name, error) from error
             if row is None:
                 return
             if row:
@@ -187,38 +178,22 @@ class Converter:
 def open_table(name: str) -> IO[str]:
     """A table's text. A byte order mark at its beginning is skipped. Bytes that aren't UTF-8 don't
     matter in columns that aren't used; nowhere are they a number or the name of a used column."""
-    try:
+    with reading(name):
         return open(name, encoding="utf-8-sig", errors="surrogateescape", newline="")
-    except OSError as error:
-        raise ReadFault(error) from error
 
 
-def write_file(lines: Iterator[str], name: str) -> None:
-    """Writes a file, which is there once it is whole."""
-    path = Path(name)
-    new = path.with_name(f".{path.name}.new")
-    try:
-        with open(new, "w", encoding="ascii", newline="") as out:
-            out.writelines(lines)
-        os.replace(new, path)
-    finally:
-        new.unlink(missing_ok=True)
-
-
-def write_output(lines: Iterator[str]) -> None:
-    """Writes to standard output, once all lines are there."""
-    with tempfile.TemporaryFile("w+", encoding="ascii", newline="") as whole_text:
+def write_output(lines: Iterator[str], name: str) -> None:
+    """Writes to standard output, once all lines of the table of this name are there."""
+    with writing(name, "a temporary file"), tempfile.TemporaryFile("w+", newline="") as whole_text:
         whole_text.writelines(lines)
         whole_text.seek(0)
-        with open(STANDARD_OUTPUT, "w", encoding="ascii", newline="", closefd=False) as out:
+        with standard_output(name) as out:
             shutil.copyfileobj(whole_text, out)
 
 
-def arguments() -> argparse.Namespace:
-    parser = argparse.ArgumentParser(
-        description=__doc__, formatter_class=argparse.RawDescriptionHelpFormatter
-    )
-    add = parser.add_argument
+def parser() -> Parser:
+    made = Parser("det_stimulus", __doc__)
+    add = made.add_argument
     add("table", metavar="LOG.csv", help="/dev/stdin is standard input")
     add("--time", metavar="COLUMN", help="the column of times")
     add("--unit", choices=UNITS, default="ns", help="of the times; ns if not given")
@@ -231,42 +206,22 @@ def arguments() -> argparse.Namespace:
     add("--exact", action="store_true", help="refuses a value that would be rounded")
     add("--delimiter", default=",", help="between cells: one character, a comma if not given")
     add("-o", dest="out", metavar="FILE", help="in place of standard output")
-    return parser.parse_args()
+    return made
 
 
-def convert(given: argparse.Namespace) -> None:
+def convert(given: argparse.Namespace) -> int:
     plan = plan_of(given)
     if len(given.delimiter) != 1 or given.delimiter in '"\r\n':
         raise BadWords("--delimiter takes one character that isn't a quote or the end of a line")
-    stream = open_table(given.table)
-    if given.out and os.path.exists(given.out) and os.path.samefile(given.table, given.out):
-        raise BadWords("-o names the table itself")
-    with stream:
-        lines = Converter(Table(stream, given.delimiter), plan).lines()
+    check_output("-o", given.out, [given.table])
+    with open_table(given.table) as stream:
+        lines = Converter(Table(stream, given.table, given.delimiter), plan).lines()
         if given.out:
-            write_file(lines, given.out)
+            write_file(given.out, lines)
         else:
-            write_output(lines)
-
-
-def fail(status: int, line: str) -> int:
-    print(f"det_stimulus: {line}", file=sys.stderr)
-    return status
-
-
-def main() -> int:
-    try:
-        convert(arguments())
-    except BadWords as error:
-        return fail(2, str(error))
-    except BadTable as error:
-        return fail(4, f"bad table: {error}")
-    except ReadFault as error:
-        return fail(6, f"read fault: {error}")
-    except OSError as error:
-        return fail(7, f"write fault: {error}")
+            write_output(lines, given.table)
     return 0
 
 
 if __name__ == "__main__":
-    sys.exit(main())
+    sys.exit(run_tool(parser(), convert))

@@ -123,8 +123,8 @@ def manuals(places: Places) -> list[Copy]:
 
 def completions() -> list[Copy]:
     """What bash loads when a program's name is typed."""
-    to = "share/bash-completion/completions"
-    return [Copy(f"{to}/{it}", source(f"completions/{it}")) for it in PROGRAMS]
+    to, names = "share/bash-completion/completions", (*PROGRAMS, *TOOLS)
+    return [Copy(f"{to}/{it}", source(f"completions/{it}")) for it in names]
 
 
 def documents() -> list[Copy]:
@@ -136,14 +136,15 @@ def documents() -> list[Copy]:
 
 
 def tools(prefix: str) -> list[Copy]:
-    """The tools of records, and for each a program of its name."""
+    """The tools of records, and for each a program of its name. They take their version from the
+    file beside their folder."""
     names = [name for pattern in MODULES for name in files_like(pattern)]
     there = [name for name in TOOLS if f"tools/{name}.py" in names]
     files = {it: shlex.quote(f"{prefix}/share/det/tools/{it}.py") for it in there}
     # Python would leave files of its own beside the modules, which nothing removes.
     call = '#!/bin/sh\nexec python3 -B {} "$@"\n'
     calls = [Copy(f"bin/{it}", call.format(file).encode(), PROGRAM) for it, file in files.items()]
-    return calls + [Copy(f"share/det/{name}", source(name)) for name in names]
+    return calls + [Copy(f"share/det/{name}", source(name)) for name in ("VERSION", *names)]
 
 
 def page() -> list[Copy]:

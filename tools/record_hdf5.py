@@ -17,15 +17,14 @@ Attributes of the file have the header, and the record's fault, which is empty i
 
 from __future__ import annotations
 
-import os
 from dataclasses import dataclass, field
 from itertools import islice
-from pathlib import Path
 from typing import Any, Callable, Iterable, Optional
 
 import h5py
 import numpy
 
+from det_tool import whole_file
 from record_fields import JOB_NAMES, Fields, element_fields, output_fields
 from record_reader import Readable, RecordReader
 from record_values import BadRecord, Elements, Finished, Header, Init, Item, Refused, Run
@@ -328,12 +327,6 @@ def write_hdf5(stream: Readable, rewind: Callable[[], object], name: str) -> Opt
     survey = Survey()
     survey.read(stream)
     rewind()
-    path = Path(name)
-    new = path.with_name(f".{path.name}.new")
-    try:
-        with h5py.File(new, "w") as file:
-            fill(file, survey, stream)
-        os.replace(new, path)
-    finally:
-        new.unlink(missing_ok=True)
+    with whole_file(name) as new, h5py.File(new, "w") as file:
+        fill(file, survey, stream)
     return survey.fault
