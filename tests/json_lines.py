@@ -1,4 +1,4 @@
-"""The lines of `det show --json` for the items that tools/det_record.py reads, and of its reports."""
+"""The lines of `det show --json` for the items that tools/det_record.py reads, and its reports."""
 
 from __future__ import annotations
 

@@ -67,7 +67,7 @@ def test_tables_of_crates() -> None:
 
 
 def test_proved_crates() -> None:
-    """The tables of what is proved name crates in their last cells, and the page names each crate."""
+    """The tables of what is proved name crates in their last cells; the page names each crate."""
     rows = [line for line in section(GUARANTEES, PROVED).splitlines() if line.startswith("| ")]
     named = {word for row in rows for word in re.findall(r"`(\w+)`", row.split("|")[-2])}
     assert named <= set(listed_crates()), GUARANTEES

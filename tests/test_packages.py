@@ -30,7 +30,7 @@ FILES = {
     "det": [
         *(f"usr/bin/{it}" for it in (*NAMES, *TOOLS)),
         *(f"usr/share/man/man1/{it}.1.gz" for it in NAMES),
-        *(f"usr/share/bash-completion/completions/{it}" for it in NAMES),
+        *(f"usr/share/bash-completion/completions/{it}" for it in (*NAMES, *TOOLS)),
         "usr/share/det/tools/det_record.py",
         "usr/share/doc/det/README.md",
         "usr/share/doc/det/examples/cpp/CMakeLists.txt",
@@ -48,10 +48,10 @@ SOURCE_TOOL = TOP / "tools" / "det_record.py"
 SETTINGS = {"SOURCE_DATE_EPOCH": "1700000000", "LC_ALL": "C"}
 
 
-def make_packages(bench: CppBench, to: Path, **more: str) -> Outcome:
-    """Packs the programs and the library under test."""
+def make_packages(bench: CppBench, to: Path, top: Path = TOP, **more: str) -> Outcome:
+    """Packs the programs and the library under test, with all else of a copy of the repository."""
     need("dpkg-deb", "dpkg-shlibdeps", "strip")
-    words = ["python3", "-B", TOP / "tools" / "debian.py", "--to", to]
+    words = ["python3", "-B", top / "tools" / "debian.py", "--to", to]
     words += ["--programs", bench.programs.folder, "--library", bench.archive]
     return run(words, bench.folder, {**os.environ, **SETTINGS, **more})
 
@@ -112,6 +112,36 @@ def test_fields(packages: Unpacked) -> None:
         assert fields["Architecture"] == "amd64"
     needs = fields_of(packages.files["det"])["Depends"]
     assert re.fullmatch(r"libc6 \(>= 2\.\d+\), python3 \(>= 3\.9\)", needs)
+
+
+def test_python_of_the_tools(packages: Unpacked) -> None:
+    """Debian's own Python runs the tools, as its packages are those that they may need."""
+    for name in TOOLS:
+        lines = (packages.root / "usr/bin" / name).read_text().splitlines()
+        assert lines[1] == f'exec /usr/bin/python3 -B /usr/share/det/tools/{name}.py "$@"'
+    assert fields_of(packages.files["det"])["Suggests"].endswith(", parallel, python3-h5py")
+
+
+def copy_of_the_top(to: Path) -> Path:
+    """What is packed of a repository, where nothing is built."""
+    for name in ("tools", "cpp", "include", "packaging", "docs", "completions"):
+        shutil.copytree(TOP / name, to / name)
+    for name in ("VERSION", "CHANGELOG.md", "README.md", "crates.txt"):
+        shutil.copy(TOP / name, to / name)
+    return to
+
+
+def test_page(folder: Path, cpp: CppBench) -> None:
+    """The page is packed where it is built."""
+    top, name = copy_of_the_top(folder / "top"), "usr/share/det/det_page.html"
+    package = folder / "debs" / f"det_{VERSION}_amd64.deb"
+    given = make_packages(cpp, package.parent, top)
+    assert given.status == 0 and name not in listed(package), str(given)
+    page = top / "out" / "page" / "det_page.html"
+    page.parent.mkdir(parents=True)
+    page.write_text("a page")
+    given = make_packages(cpp, package.parent, top)
+    assert given.status == 0 and name in listed(package), str(given)
 
 
 def test_maintainer(cpp: CppBench) -> None:
@@ -259,14 +289,11 @@ def test_installed_and_removed(folder: Path, packages: Unpacked) -> None:
 
 def test_nothing_built(folder: Path) -> None:
     """Without the programs nothing is packed, and a line says what to do."""
-    for name in ("tools", "cpp", "include", "packaging", "docs", "completions"):
-        shutil.copytree(TOP / name, folder / "top" / name)
-    for name in ("VERSION", "CHANGELOG.md", "README.md", "crates.txt"):
-        shutil.copy(TOP / name, folder / "top" / name)
-    given = run(["python3", "-B", folder / "top/tools/debian.py"], folder)
+    top = copy_of_the_top(folder / "top")
+    given = run(["python3", "-B", top / "tools/debian.py"], folder)
     assert (given.status, given.out) == (1, b""), str(given)
     assert b"run `make` first" in given.err
-    assert not (folder / "top/out").exists()
+    assert not (top / "out").exists()
 
 
 def test_missing_tool(folder: Path) -> None:

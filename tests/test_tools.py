@@ -68,6 +68,8 @@ BAD_WORDS = {
     "det_record a.rec --csv cycles --hdf5 x": "argument --hdf5: not allowed with argument --csv",
     "det_record a.rec b.rec": "unrecognized arguments: b.rec",
     "det_record a.rec --hdf5 ./a.rec": "--hdf5 ./a.rec: this file is read",
+    "det_stimulus log.csv": "neither --time nor --event",
+    "det_stimulus log.csv --unit s --exact": "neither --time nor --event",
     "det_stimulus log.csv --event x": "--event x: it takes EVENT=..",
     "det_stimulus log.csv --time": "argument --time: expected one argument",
     "det_stimulus log.csv --time t -o ./log.csv": "-o ./log.csv: this file is read",

@@ -155,7 +155,7 @@ def completion_of(name: str) -> str:
     calls, own = calls_of(name, texts), own_words(name, texts)
     commands = [it for it in calls if it]
     arms = [arm(word, call) for word, call in calls.items()]
-    return filled({
+    values = {
         "SOURCE": f"what `{name} --help` prints",
         "NAME": name,
         "COMMANDS": " ".join(commands),
@@ -164,7 +164,8 @@ def completion_of(name: str) -> str:
         "COPIES": numbers(texts.usage),
         "VALUES": OTHERS,
         "CALLS": "\n".join(arms + ["    *) return 1 ;;"] * bool(commands)),
-    })
+    }
+    return filled(values)
 
 
 def excluded(parser: argparse.ArgumentParser, action: argparse.Action) -> list[str]:
@@ -195,17 +196,18 @@ def completion_of_tool(name: str) -> str:
         for word in it.option_strings
     ]
     most = 1 if names.nargs is None else MANY
-    values = [value_arm(name, it) for it in given if it.choices or it.metavar == "FILE"]
-    return filled({
+    arms = [value_arm(name, it) for it in given if it.choices or it.metavar == "FILE"]
+    values = {
         "SOURCE": f"the parser of tools/{name}.py",
         "NAME": name,
         "COMMANDS": "",
         "OWN_WORDS": "",
         "DASHED": "",
         "COPIES": "",
-        "VALUES": "\n".join([*values, OTHERS]),
+        "VALUES": "\n".join([*arms, OTHERS]),
         "CALLS": arm("", Call([str(names.metavar)], most, options)),
-    })
+    }
+    return filled(values)
 
 
 def main() -> int:

@@ -6,10 +6,11 @@
     .. --programs FOLDER --library ARCHIVE            of other builds
 
 The package `det` has the programs, the tools of records, the page if `make page` built it, manual
-pages, completions, documents and
-examples. `libdeterministic-client-dev` has the library, its headers and the files for CMake and
-pkg-config. Both hold what `make install` installs, without the list for `make uninstall`. Symbols
-that only a debugger reads are stripped from programs and library; code stays as it was built.
+pages, completions, documents and examples. `libdeterministic-client-dev` has the library, its
+headers and the files for CMake and pkg-config. Both hold what `make install` installs, without the
+list for `make uninstall`. Symbols that only a debugger reads are stripped from programs and
+library; code stays as it was built. The tools are run by Debian's own Python, which has its
+packages.
 
 The version is that of the file VERSION, the changes are those of CHANGELOG.md. DEBFULLNAME and
 DEBEMAIL name another maintainer. With SOURCE_DATE_EPOCH two calls over the same files make the same
@@ -42,6 +43,7 @@ from install import Copy, Places, Refused  # noqa: E402
 
 TOP = install.TOP
 ARCHITECTURE, TRIPLET = "amd64", "x86_64-linux-gnu"
+PYTHON = "/usr/bin/python3"
 PLACES = Places(f"lib/{TRIPLET}", "include", "share/man")
 MAINTAINER = ("Wirafotsy maintainers", "maintainers@users.noreply.wirafotsy.example")
 # The Debian package of each tool that is called.
@@ -166,12 +168,12 @@ def needed_libraries(programs: Sequence[Copy]) -> str:
 
 def program_package(given: argparse.Namespace, when: int) -> Package:
     programs = [fitted(it) for it in install.programs(given.programs)]
-    others = [*install.manuals(PLACES), *install.completions(), *install.tools("/usr")]
+    others = [*install.manuals(PLACES), *install.completions(), *install.tools("/usr", PYTHON)]
     others += [*install.page(), *install.documents(), *papers("det", when)]
     fields = {
         "Section": "utils",
         "Depends": f"{needed_libraries(programs)}, python3 (>= 3.9)",
-        "Suggests": "bash-completion, libdeterministic-client-dev",
+        "Suggests": "bash-completion, libdeterministic-client-dev, parallel, python3-h5py",
     }
     about = (
         "Runs cyclic jobs as redundant copies do, after the class DeterministicClient of the "

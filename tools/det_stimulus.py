@@ -86,6 +86,8 @@ def given_by_event(
 
 
 def plan_of(given: argparse.Namespace) -> Plan:
+    if given.time is None and not given.event:
+        raise BadWords("neither --time nor --event, so nothing of the table would be taken")
     if len(given.event) > MOST_SAMPLES:
         raise BadWords(f"--event: more than {MOST_SAMPLES} samples in a cycle")
     samples = [by_event("--event", word) for word in given.event]

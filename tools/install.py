@@ -135,16 +135,17 @@ def documents() -> list[Copy]:
     return [Copy(f"share/doc/det/{it}", data, modes[it]) for it, data in files.items()]
 
 
-def tools(prefix: str) -> list[Copy]:
-    """The tools of records, and for each a program of its name. They take their version from the
-    file beside their folder."""
+def tools(prefix: str, python: str = "python3") -> list[Copy]:
+    """The tools of records, and for each a program of its name that calls this Python. They take
+    their version from the file beside their folder."""
     names = [name for pattern in MODULES for name in files_like(pattern)]
     there = [name for name in TOOLS if f"tools/{name}.py" in names]
     files = {it: shlex.quote(f"{prefix}/share/det/tools/{it}.py") for it in there}
     # Python would leave files of its own beside the modules, which nothing removes.
-    call = '#!/bin/sh\nexec python3 -B {} "$@"\n'
-    calls = [Copy(f"bin/{it}", call.format(file).encode(), PROGRAM) for it, file in files.items()]
-    return calls + [Copy(f"share/det/{name}", source(name)) for name in ("VERSION", *names)]
+    text = '#!/bin/sh\nexec {} -B {} "$@"\n'
+    calls = {f"bin/{it}": text.format(python, file) for it, file in files.items()}
+    launchers = [Copy(to, call.encode(), PROGRAM) for to, call in calls.items()]
+    return launchers + [Copy(f"share/det/{name}", source(name)) for name in ("VERSION", *names)]
 
 
 def page() -> list[Copy]:
