@@ -12,7 +12,7 @@ import pytest
 from against_det import JOBS, Against
 from commands import TOP, difference
 from cpp_bench import EXAMPLES, CppBench, compile_example
-from hint_cases import ODD, SHOWN_ODD
+from hint_records import ODD, SHOWN_ODD
 
 WORKERS = (1, 4, 16)
 SEED = 5

@@ -18,7 +18,8 @@ from typing import Optional
 import pytest
 
 from commands import Outcome, Programs, difference, excerpt
-from hint_cases import CASES, HintCase, To
+from hint_cases import CASES
+from hint_inputs import HintCase, To
 
 LIMIT = 60
 

@@ -17,7 +17,8 @@ from builds import build_page
 from commands import TOP
 from det_record import Finished, Refused
 from documents import section
-from hint_cases import RECORDS, RUN_1_AT, WHOLE
+from hint_inputs import RUN_1_AT, WHOLE
+from hint_records import RECORDS
 from mutations import changed_record
 from page_words import REASONS, expected_verdict, expected_words, runs_in
 from record_bench import RecordBench
