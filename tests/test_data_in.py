@@ -80,6 +80,21 @@ def test_stimulus_is_recorded(records: RecordBench) -> None:
     ]
 
 
+def test_times_alone(records: RecordBench) -> None:
+    """A stimulus of times has no samples."""
+    text = taken(records, LOG, "--time", "t", "--unit", "ms")
+    assert text == re.sub(r"sample .*\n", "", STIMULUS)
+
+
+def test_nothing_is_taken(records: RecordBench) -> None:
+    """Without a column there would be only empty cycles, so one line refuses that."""
+    given = convert(records, LOG, "--unit", "ms", "-o", "a.stim")
+    line, hint = given.err.decode().splitlines()
+    assert (given.status, given.out, hint) == (2, b"", "  see det_stimulus --help")
+    assert line.startswith("det_stimulus: bad words: neither --time nor --event, so nothing")
+    assert not (records.folder / "a.stim").exists()
+
+
 def test_columns(records: RecordBench) -> None:
     """Two columns can be samples of one event, in the order of the words; a delimiter is given."""
     table = "a;b=c\n1;2\n3;\n"
@@ -184,11 +199,13 @@ def test_refused_words(words: tuple, records: RecordBench) -> None:
 
 def test_statuses_of_converter(records: RecordBench) -> None:
     """A missing table, a full output and a missing folder have statuses of their own."""
-    assert records.tool("det_stimulus.py", "nothing.csv").status == 6
-    assert records.tool("det_stimulus.py", ".").status == 6
-    assert convert(records, "x\n1\n", "-o", "nothing/a.stim").status == 7
+    words = ("--event", "0=x")
+    assert records.tool("det_stimulus.py", "nothing.csv", *words).status == 6
+    assert records.tool("det_stimulus.py", ".", *words).status == 6
+    assert convert(records, "x\n1\n", *words, "-o", "nothing/a.stim").status == 7
+    file = records.file("log.csv", "x\n1\n")
     with open("/dev/full", "wb") as full:
-        given = records.tool("det_stimulus.py", records.file("log.csv", "x\n1\n"), stdout=full)
+        given = records.tool("det_stimulus.py", file, *words, stdout=full)
     assert given.status == 7 and given.err.count(b"\n") == 1, str(given)
 
 
@@ -206,13 +223,13 @@ def test_bytes_of_another_encoding(records: RecordBench) -> None:
 def test_most_rows(records: RecordBench) -> None:
     """1,000,000 rows are a stimulus that `det` takes, and one more is refused."""
     table = "t\n" + "1\n" * 1_000_000
-    text = taken(records, table)
-    assert text.count("cycle -\n") == 1_000_000
+    text = taken(records, table, "--time", "t")
+    assert text.count("cycle 1\n") == 1_000_000
     file = records.file("most.stim", text)
     with open(records.folder / "most.rec", "wb") as out:
         given = records.run("det", "record", TOP / "examples" / "bank.toml", file, stdout=out)
     assert given.status == 0, str(given)
-    given = convert(records, table + "1\n")
+    given = convert(records, table + "1\n", "--time", "t")
     assert (given.status, given.out) == (4, b"") and b"line 1000002" in given.err, str(given)
 
 
