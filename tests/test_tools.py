@@ -177,6 +177,15 @@ def test_failed_write(tool: str, small: RecordBench) -> None:
     assert names_in(small) == sorted([*FILES, "result"])
 
 
+def test_temporary_file(small: RecordBench) -> None:
+    """A stimulus goes to a temporary file first. The line says that this can't be written."""
+    small.file("log.csv", TABLE + "5\n" * (1 << 12))
+    how: dict[str, Any] = {"preexec_fn": limit_files}
+    given = small.tool("det_stimulus.py", *CALLS["det_stimulus"][0], **how)
+    line = "det_stimulus: log.csv: write fault: a temporary file: File too large\n"
+    assert given == Outcome(7, b"", line.encode())
+
+
 @pytest.mark.parametrize("tool", CALLS)
 def test_pipe(tool: str, small: RecordBench) -> None:
     """What is no plain file is written, and no file takes its place."""
