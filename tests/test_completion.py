@@ -129,6 +129,23 @@ def test_options_are_those_of_the_program(command: str, bench: Bench) -> None:
     assert given == {it for it in OPTIONS if takes(bench, command, it)}
 
 
+def test_any_file_for_a_result(typing: Bench) -> None:
+    """All files are offered for the value of -o, whatever their endings are."""
+    typing.file("ends with.", "")
+    names = {it.name for it in typing.folder.iterdir()}
+    assert set(offers(typing, "det_page a.rec -o ")) == names >= {"ends with.", *FOLDERS}
+
+
+@pytest.mark.parametrize("tool", TOOLS)
+def test_options_are_those_of_the_help(tool: str, bench: Bench) -> None:
+    """A tool in Python is offered the options that its help lists, and no other ones."""
+    given = run([sys.executable, "-B", TOP / "tools" / f"{tool}.py", "--help"], bench.folder)
+    # An option, its value, and after more spaces what it means.
+    listed = re.findall(r"^  (-.*?)(?:  .*)?$", given.out.decode(), re.MULTILINE)
+    words = {word for line in listed for word in re.findall(r"(?<!\S)--?\w+", line)}
+    assert set(offers(bench, f"{tool} -")) == words >= {"-h", "--help", "--version"}
+
+
 def test_a_name_with_spaces(typing: Bench) -> None:
     """A name is one offer, whatever is in it."""
     typing.file("my file.toml", "")
@@ -156,23 +173,26 @@ def test_files_are_those_of_their_sources() -> None:
     assert {it.name for it in (TOP / "completions").iterdir()} == {*NAMES, *TOOLS}
 
 
+PAGES = "crates/det_cli/src/pages.rt"
 CHANGES = {
-    "a file": ("completions/det", "--cycle:1:", "--cycle:0:"),
-    "a page": ("crates/det_cli/src/pages.rt", "det show RECORD [--rep", "det show RECORD [--xrep"),
-    "the table": ("crates/cli_words/src/table.rt", '"compare", 2, 8', '"compare", 2, 9'),
-    "the code": ("tools/completion.bash", "sort -u", "sort"),
+    "a file": ("det", "completions/det", "--cycle:1:", "--cycle:0:"),
+    "a page": ("det", PAGES, "det show RECORD [--rep", "det show RECORD [--xrep"),
+    "the table": ("det", "crates/cli_words/src/table.rt", '"compare", 2, 8', '"compare", 2, 9'),
+    "the code": ("det", "tools/completion.bash", "sort -u", "sort"),
+    "a parser": ("det_record", "tools/det_record.py", '"--csv", choices', '"--table", choices'),
+    "choices": ("det_stimulus", "tools/stimulus_values.py", '{"ns": 1, ', '{"ns": 1, "ps": 1, '),
 }
 
 
-@pytest.mark.parametrize("source, old, new", CHANGES.values(), ids=CHANGES)
+@pytest.mark.parametrize("name, source, old, new", CHANGES.values(), ids=CHANGES)
 def test_a_change_is_reported_until_the_file_is_written(
-    copy: Path, source: str, old: str, new: str
+    copy: Path, name: str, source: str, old: str, new: str
 ) -> None:
     text = (copy / source).read_text()
     assert text.count(old) == 1
     (copy / source).write_text(text.replace(old, new))
     done = completion(copy, "--check")
-    assert done.status == 1 and b"differs: completions/det\n" in done.out, str(done)
+    assert done.status == 1 and f"differs: completions/{name}\n".encode() in done.out, str(done)
     assert completion(copy, "--write").status == 0
     assert completion(copy, "--check") == Outcome(0, b"", b"")
 

@@ -10,10 +10,11 @@ _@NAME@_call() {
     esac
 }
 
-# Offers files with this ending, or all where none has it. Folders are always offered.
+# Offers files with this ending, or all where none has it or no ending is given. Folders are always
+# offered.
 _@NAME@_files() {
     compopt -o filenames 2>/dev/null
-    mapfile -t COMPREPLY < <(compgen -f -X "!*.$1" -- "$current")
+    [[ $1 ]] && mapfile -t COMPREPLY < <(compgen -f -X "!*.$1" -- "$current")
     if ((${#COMPREPLY[@]})); then
         mapfile -t -O "${#COMPREPLY[@]}" COMPREPLY < <(compgen -d -- "$current")
     else
