@@ -74,6 +74,8 @@ def test_install_and_uninstall(bench: Bench, library: Path) -> None:
         file = root / "share/det/tools" / f"{tool}.py"
         given = run(["python3", "-B", file, "--version"], root)
         assert given == Outcome(0, version_line(tool), b"")
+        call = f"exec python3 -B '{PREFIX}/share/det/tools/{tool}.py' \"$@\"\n"
+        assert (root / "bin" / tool).read_text() == f"#!/bin/sh\n{call}"
     make_other(root)
     second = run_installer(bench.programs, bench.folder, "--uninstall")
     assert not second.status, str(second)
