@@ -43,7 +43,8 @@ class Browser(ABC):
     """A browser with one tab."""
 
     @abstractmethod
-    def go(self, url: str) -> None: ...
+    def go(self, url: str) -> None:
+        """Loads a page."""
 
     @abstractmethod
     def value(self, expression: str) -> Any:
@@ -150,7 +151,10 @@ class Firefox(Browser):
         environment = {**os.environ, "HOME": str(folder), "MOZ_HEADLESS": "1"}
         with open(folder / "firefox.log", "wb") as log:
             self.process = subprocess.Popen(
-                [program(FIREFOX), *words], stdout=log, stderr=log, env=environment,
+                [program(FIREFOX), *words],
+                stdout=log,
+                stderr=log,
+                env=environment,
                 start_new_session=True,
             )
         self.errors: list[str] = []

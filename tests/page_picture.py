@@ -29,7 +29,13 @@ MANIFEST = f"""job = "cloud"
 cycle_time_ns = 10_000_000
 workers = 4
 params = [{PARTICLES}, 1000, 50, 4_000_000_000_000]
-""" + "".join(f'[[event]]\nname = "{name}"\ncapacity = 1\n' for name in "xy")
+[[event]]
+name = "x"
+capacity = 1
+[[event]]
+name = "y"
+capacity = 1
+"""
 # The bytes of a cycle: before its samples, of a sample, after them, of a particle, of an output.
 BEFORE, SAMPLE, AFTER, PARTICLE, OUTPUT = 14, 10, 5, 26, 36
 LAST_OF_X = 13

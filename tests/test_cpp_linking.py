@@ -118,9 +118,7 @@ def test_c_surface(cpp: CppBench) -> None:
 @pytest.mark.parametrize("compiler", ("g++", "clang++"))
 def test_core_result(compiler: str, cpp: CppBench) -> None:
     """Results are those of ara::core, where an application has it."""
-    cpp.check_lines(
-        [cpp.compile(compiler, ["core_result.cpp"], f"core_{compiler}", [*CPP, *CORE])]
-    )
+    cpp.check_lines([cpp.compile(compiler, ["core_result.cpp"], f"core_{compiler}", [*CPP, *CORE])])
 
 
 def test_plugin(cpp: CppBench) -> None:

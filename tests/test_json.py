@@ -94,7 +94,12 @@ def test_numbers_beyond_2_53(records: RecordBench) -> None:
     assert is_same(records, data + TERMINATE)
     text, _ = records.det("show", records.file("numbers.rec", data + TERMINATE), "--json")
     lines = [json.loads(line) for line in text.splitlines()]
-    assert lines[0]["header"]["params"][:4] == [2**53, str(2**53 + 1), -(2**53), str(-(2**53) - 1)]
+    assert lines[0]["header"]["params"][:4] == [
+        2**53,
+        str(2**53 + 1),
+        -(2**53),
+        str(-(2**53) - 1),
+    ]
     times = [line["run"]["time"] for line in lines if "run" in line]
     assert times == [0, None, 2**53, str(2**53 + 1), str(2**64 - 1)]
     fields = [element.get("fields") for element in lines[3]["init"]]

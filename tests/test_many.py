@@ -92,7 +92,7 @@ def test_all_are_genuine(bench: Bench) -> None:
     (bench.folder / "a 'b").mkdir()
     for name in ("x y.rec", "$HOME.rec", "{}.rec", "line\nend.rec", "tab\t.rec"):
         (bench.folder / "a 'b" / name).write_bytes(record)
-    given = shell(bench, '''bash "$many/check_all.sh" "a 'b" results 2''')
+    given = shell(bench, """bash "$many/check_all.sh" "a 'b" results 2""")
     assert given == Outcome(0, b"records 5\nstatus 0 5\n", b""), str(given)
     names = [it.split("\t")[1] for it in (bench.folder / "results").read_text().splitlines()]
     assert len(names) == 5 and {"a 'b/x y.rec", "a 'b/$HOME.rec", "a 'b/{}.rec"} <= set(names)

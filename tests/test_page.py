@@ -65,8 +65,10 @@ def load(browser: Browser, page: Path) -> None:
 
 def choose(browser: Browser, files: Sequence[str]) -> dict[str, Any]:
     """Chooses files on the page. Returns what it shows then."""
-    browser.value("(() => { document.getElementById('files').value = ''; "
-                  "delete document.body.dataset.done; return 1 })()")
+    browser.value(
+        "(() => { document.getElementById('files').value = ''; "
+        "delete document.body.dataset.done; return 1 })()"
+    )
     browser.choose([Path(it) for it in files])
     browser.wait("document.body.dataset.done")
     assert browser.errors == []
@@ -101,9 +103,7 @@ def name_of(browser: Browser) -> str:
 
 
 @pytest.mark.slow
-def test_verdicts_are_those_of_compare(
-    browser: Browser, page: Path, records: RecordBench
-) -> None:
+def test_verdicts_are_those_of_compare(browser: Browser, page: Path, records: RecordBench) -> None:
     """Copies drawn by chance: the verdict and its meaning, the faults, the numbers of cycles and of
     refusals, and the text of a cycle of copy 0."""
     load(browser, page)
@@ -126,9 +126,7 @@ def test_verdicts_are_those_of_compare(
         assert text_of(browser, cycle) == printed, draw
 
 
-def test_words_on_each_kind_of_fault(
-    browser: Browser, page: Path, records: RecordBench
-) -> None:
+def test_words_on_each_kind_of_fault(browser: Browser, page: Path, records: RecordBench) -> None:
     """Beside a whole record: a fault at each place that hints name, and each reason."""
     load(browser, page)
     whole = records.example("guard")
@@ -166,9 +164,7 @@ def test_words_on_one_record(browser: Browser, page: Path, records: RecordBench)
 
 
 @pytest.mark.slow
-def test_words_on_too_many_cycles(
-    browser: Browser, page: Path, records: RecordBench
-) -> None:
+def test_words_on_too_many_cycles(browser: Browser, page: Path, records: RecordBench) -> None:
     load(browser, page)
     data = many_runs(1_000_001)
     file = records.file("many.rec", data)
@@ -249,9 +245,7 @@ def differing_cycles(ours: bytes, theirs: bytes) -> int:
     return sum(a != b for a, b in zip(runs_in(ours), runs_in(theirs)))
 
 
-def test_map_counts_cycles_that_differ(
-    browser: Browser, page: Path, records: RecordBench
-) -> None:
+def test_map_counts_cycles_that_differ(browser: Browser, page: Path, records: RecordBench) -> None:
     """Two clouds of which one has changed bytes. The difference is said in words."""
     load(browser, page)
     data = records.example("cloud")
@@ -300,8 +294,10 @@ def test_file_that_is_gone(browser: Browser, page: Path, records: RecordBench) -
     file = records.file("gone\u202e.rec", WHOLE)
     choose(browser, [file])
     Path(file).unlink()
-    browser.value("(() => { delete document.body.dataset.done; document.getElementById('files')"
-                  ".dispatchEvent(new Event('change')); return 1 })()")
+    browser.value(
+        "(() => { delete document.body.dataset.done; document.getElementById('files')"
+        ".dispatchEvent(new Event('change')); return 1 })()"
+    )
     browser.wait("document.body.dataset.done")
     shown = browser.value(SHOWN)
     assert (shown["verdict"], shown["words"], shown["copies"]) == ("can't read gone?.rec", "", [])
@@ -324,9 +320,7 @@ def test_too_many_records(browser: Browser, page: Path, records: RecordBench) ->
     assert shown["verdict"] == expected_verdict(records.run("det", "compare", *files[:8]))
 
 
-def test_records_that_are_embedded(
-    browser: Browser, page: Path, records: RecordBench
-) -> None:
+def test_records_that_are_embedded(browser: Browser, page: Path, records: RecordBench) -> None:
     """A page with two records shows them when it is opened, under their names. A name is one line,
     with `?` for what would move its other characters."""
     data = records.example("guard")
