@@ -27,13 +27,9 @@ function linesByCopy(column) {
                     }));
 }
 
-function stepsOf(times) {
-  return times.map((time, c) => (c ? time - times[c - 1] : NaN));
-}
-
 function showRunCharts(out, most) {
   make(out, 'h2', 'Time and random numbers');
-  const steps = linesByCopy(({ runs }) => stepsOf(runs.time));
+  const steps = linesByCopy(({ runs }) => runs.step);
   const is_drawn = showChart(out, 'step of time to the cycle, in ns', steps, most);
   const draws = linesByCopy(({ runs }) => runs.draws);
   showChart(out, 'random numbers that all elements drew', draws, most);
@@ -110,6 +106,6 @@ async function showElements(out, most, elements, place) {
   const list = make(label, 'input', undefined, { type: 'text', id: 'elements' });
   list.value = place && place.element !== null ? String(place.element) : spread.join(',');
   const charts = make(out, 'div');
-  list.onchange = () => showValues(charts, most, list.value).catch((error) => fail(error.message));
+  list.onchange = () => answer(charts, showValues(charts, most, list.value));
   await showValues(charts, most, list.value);
 }

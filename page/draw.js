@@ -51,11 +51,10 @@ function drawStripe(canvas, runs, most) {
     if (from > runs.count) return from > most ? null : `${cyclesIn(from, to)}: not in this copy`;
     const refused = runs.refusals.filter(({ cycle }) => cycle >= from && cycle <= to);
     if (refused.length) return refused.slice(0, 3).map(refusalLine).join('; ');
-    const time = Number.isNaN(runs.time[from - 1]) ?
-        'no time' :
-        `time ${runs.time[from - 1].toLocaleString('en')} ns`;
+    const time =
+        runs.is_timed[from - 1] ? `time ${runs.time[from - 1].toLocaleString('en')} ns` : 'no time';
     return `${cyclesIn(from, to)}: finished, ${time}, ${runs.elements[from - 1]} elements, ${
-        runs.draws[from - 1].toLocaleString('en')} draws`;
+        number(runs.draws[from - 1])} draws`;
   };
 }
 
@@ -185,14 +184,13 @@ function drawLines(canvas, lines, cycles, range) {
 }
 
 function chartLine(lines, from, to) {
-  const told = lines.map(({ values, label }) => {
+  const words = lines.map(({ values, label }) => {
     const found = columnOf(values, from, Math.max(to, from + 1));
     if (!found) return null;
-    const number = (v) => v.toLocaleString('en');
     return `${label} ${
         found.low === found.high ? number(found.low) :
                                    `${number(found.low)} to ${number(found.high)}`}`;
   });
   return `${cyclesIn(from + 1, Math.max(to, from + 1))}: ${
-      told.filter(Boolean).slice(0, 8).join('; ') || 'no value'}`;
+      words.filter(Boolean).slice(0, 8).join('; ') || 'no value'}`;
 }

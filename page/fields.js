@@ -57,9 +57,10 @@ function outputFields(job) {
   return wordFields();
 }
 
-// The fields of some bytes, which are given as hex digits, in words.
+// The fields of some bytes in words. The bytes are given as hex digits, or as `-` if there are
+// none.
 function hexInWords(hex, fields) {
-  if (!hex) return 'no bytes';
+  if (hex === '-') return 'no bytes';
   const bytes = Uint8Array.from(hex.match(/../g) || [], (pair) => parseInt(pair, 16));
   const view = new DataView(bytes.buffer);
   const read = { i64: 'getBigInt64', u64: 'getBigUint64', u32: 'getUint32', u16: 'getUint16' };

@@ -42,6 +42,14 @@ function fail(line) {
   $('verdict').className = 'bad';
 }
 
+// Waits for what a choice on a part of the page has shown there. An error is of no use once other
+// records are shown.
+function answer(part, shown) {
+  shown.catch((error) => {
+    if (part.isConnected) fail(error.message);
+  });
+}
+
 // A name as one line, in which no character moves others: `?` is in place of such a one.
 const shownName = (name) => name.replace(/[\p{Cc}\p{Bidi_Control}\u2028\u2029]/gu, '?');
 
@@ -88,7 +96,10 @@ function take(files) {
 
 const bytesOf = (text) => Uint8Array.from(atob(text.trim()), (c) => c.charCodeAt(0));
 
-const namedBlobs = (list) => [...list].map((file) => ({ name: file.name, blob: file }));
+// A drop may have no files, but a text, say. It changes nothing.
+function takeFiles(files) {
+  if (files.length) take([...files].map((file) => ({ name: file.name, blob: file })));
+}
 
 // Delays the event `load` of the page, for which a browser without a window waits before it makes a
 // picture: a document in a frame that is open does that. Returns what ends the delay.
@@ -103,7 +114,7 @@ function delayLoad() {
 
 // From now on takes the files that are chosen or dropped.
 function takeChosen() {
-  $('files').onchange = () => take(namedBlobs($('files').files));
+  $('files').onchange = () => takeFiles($('files').files);
   document.ondragover = (event) => {
     event.preventDefault();
     $('drop').classList.add('over');
@@ -112,7 +123,7 @@ function takeChosen() {
   document.ondrop = (event) => {
     event.preventDefault();
     $('drop').classList.remove('over');
-    take(namedBlobs(event.dataTransfer.files));
+    takeFiles(event.dataTransfer.files);
   };
 }
 

@@ -2,7 +2,13 @@
 
 const MOST_LINES = 40;
 const $ = (id) => document.getElementById(id);
-const number = (n) => n.toLocaleString('en');
+
+// A whole number with separators. Beyond 2^53 a chart has it rounded, and only fifteen digits of it
+// are shown.
+function number(n) {
+  if (Number.isSafeInteger(n)) return n.toLocaleString('en');
+  return `about ${n.toLocaleString('en', { maximumSignificantDigits: 15 })}`;
+}
 
 function make(parent, tag, text, attributes = {}) {
   const it = document.createElement(tag);
@@ -95,7 +101,7 @@ async function showMaps(out, elements, place) {
     canvas.onclick = (event) => {
       $('cycle').value =
           Math.floor(event.offsetX / canvas.clientWidth * map.width) * map.per_column + 1;
-      showText();
+      showChosenCycle();
     };
     const rows = map.per_mark === 1 ? 'an element in a row' : `${map.per_mark} elements in a row`;
     make(
@@ -136,11 +142,14 @@ function cycleInCopies(texts) {
   return [...same, ...absent].join('\n\n');
 }
 
-async function showText() {
-  const cycle = Number($('cycle').value);
+async function showText(out, cycle) {
   if (!(cycle >= 1)) return;
   const texts = await Promise.all(copies.map((_, k) => ask('text', k, cycle)));
-  $('text').textContent = cycleInCopies(texts);
+  out.textContent = cycleInCopies(texts);
+}
+
+function showChosenCycle() {
+  answer($('text'), showText($('text'), Number($('cycle').value)));
 }
 
 async function showTexts(out, most, place) {
@@ -153,9 +162,9 @@ async function showTexts(out, most, place) {
     max: most,
     value: place && place.cycle ? place.cycle : 1
   });
-  cycle.onchange = () => showText().catch((error) => fail(error.message));
-  make(out, 'pre', '', { id: 'text' });
-  await showText();
+  cycle.onchange = showChosenCycle;
+  const text = make(out, 'pre', '', { id: 'text' });
+  await showText(text, Number(cycle.value));
 }
 
 function showHeader(out) {

@@ -177,16 +177,21 @@ class Records {
     }
   }
 
-  // The cycles of a record as columns of numbers, NaN where a time isn't known.
+  // The cycles of a record as columns of numbers. `time` is exact where `is_timed` is 1; `step` is
+  // the time to the cycle, NaN where one of its two times isn't known.
   runs(copy) {
     const { rows, count, fault } = this.runRows(copy);
-    const columns = ['time', 'draws', 'output', 'samples', 'elements'];
+    const columns = ['step', 'draws', 'output', 'samples', 'elements'];
     const runs = { count, refusals: [], fault: fault && this.withPlace(copy, fault) };
     for (const name of columns) runs[name] = new Float64Array(count);
+    runs.time = new BigUint64Array(count);
+    runs.is_timed = new Uint8Array(count);
     const view = this.view();
     for (let i = 0, at = rows; i < count; i++, at += RUN_SIZE) {
-      const is_known = view.getUint32(at + 24, true);
-      runs.time[i] = is_known ? Number(view.getBigUint64(at, true)) : NaN;
+      runs.is_timed[i] = view.getUint32(at + 24, true);
+      runs.time[i] = view.getBigUint64(at, true);
+      const has_step = i && runs.is_timed[i] && runs.is_timed[i - 1];
+      runs.step[i] = has_step ? Number(runs.time[i] - runs.time[i - 1]) : NaN;
       runs.draws[i] = Number(view.getBigUint64(at + 8, true));
       runs.output[i] = Number(view.getBigUint64(at + 16, true));
       runs.samples[i] = view.getUint32(at + 28, true);

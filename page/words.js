@@ -53,17 +53,27 @@ function lineAt(text, place) {
       'no such cycle';
 }
 
-function firstApart(ours, theirs) {
-  const left = ours.split('\n'), right = theirs.split('\n');
-  const at = left.findIndex((line, i) => line !== right[i]);
-  const k = at < 0 ? left.length : at;
-  return [left[k] || 'no line', right[k] || 'no line'];
+const isSample = (line) => line.startsWith('sample ');
+
+// The first line of a kind in which two texts differ, of each text. One may have fewer.
+function firstApart(texts, isOfKind, none) {
+  const [ours, theirs] = texts.map((text) => text.split('\n').filter(isOfKind));
+  const at = ours.findIndex((line, i) => line !== theirs[i]);
+  const k = at < 0 ? ours.length : at;
+  return [ours[k] || none, theirs[k] || none];
+}
+
+// What both texts have at the place of a difference.
+function linesAt(texts, place) {
+  if (place.kind === 'header') return firstApart(texts, () => true, 'no further line');
+  if (place.kind === 'samples') return firstApart(texts, isSample, 'no further sample');
+  return texts.map((it) => lineAt(it, place));
 }
 
 // An element's or output's line with its numbers by their names.
 function lineInWords(line, header) {
   const element = /^element \d+ ([0-9a-f]*|-)(?: (\d+))?$/.exec(line);
-  const output = /^output ([0-9a-f]*)$/.exec(line);
+  const output = /^output ([0-9a-f]*|-)$/.exec(line);
   if (element)
     return `${hexInWords(element[1], elementFields(header.job, header.events))}${
         element[2] === undefined ? '' : `, ${element[2]} draws`}`;
@@ -136,11 +146,10 @@ async function wordsOnDifference(place) {
   if (kind !== 'kind') {
     const texts = kind === 'header' ? [copies[0].header, copies[copy].header] :
                                       [await ask('text', 0, cycle), await ask('text', copy, cycle)];
-    const lines = kind === 'header' || kind === 'samples' ? firstApart(...texts) :
-                                                            texts.map((it) => lineAt(it, place));
-    lines.forEach(
-        (line, k) => parts.push(`Copy ${k ? copy : 0} has ${
-            lineInWords(line, headerOf(copies[k ? copy : 0].header))}.`));
+    linesAt(texts, place)
+        .forEach(
+            (line, k) => parts.push(`Copy ${k ? copy : 0} has ${
+                lineInWords(line, headerOf(copies[k ? copy : 0].header))}.`));
   }
   return parts.join(' ');
 }

@@ -265,20 +265,57 @@ def test_map_counts_cycles_that_differ(browser: Browser, page: Path, records: Re
     )
 
 
+def wheels_of(records: RecordBench, name: str, stimulus: str) -> str:
+    """The file of a record of the example wheels, of another stimulus."""
+    manifest, file = TOP / "examples" / "wheels.toml", records.file(f"{name}.stim", stimulus)
+    return records.file(f"{name}.rec", records.output("det", "record", manifest, file))
+
+
 def test_words_of_the_tutorial(browser: Browser, page: Path, records: RecordBench) -> None:
     """The words that the tutorial quotes. `WHOLE` has the first two cycles of its `one.rec`."""
     load(browser, page)
     quotes = section("docs/TUTORIAL.md", "## A page that compares records").split("\n\n")
     quoted = [it.replace("\n> ", " ")[2:] for it in quotes if it.startswith("> ")]
     text = (TOP / "examples" / "wheels.stim").read_text()
-    other = records.file("other.stim", text.replace("sample 0 250", "sample 0 -250"))
-    made = records.output("det", "record", TOP / "examples" / "wheels.toml", other)
+    other = wheels_of(records, "other", text.replace("sample 0 250", "sample 0 -250"))
     pairs = [
-        {"wheels.rec": records.example("wheels"), "other.rec": made},
-        {"one.rec": WHOLE, "torn.rec": WHOLE[:300]},
+        [wheels_of(records, "wheels", text), other],
+        [records.file("one.rec", WHOLE), records.file("torn.rec", WHOLE[:300])],
     ]
-    files = [[records.file(name, data) for name, data in it.items()] for it in pairs]
-    assert [choose(browser, it)["words"] for it in files] == quoted
+    assert [choose(browser, it)["words"] for it in pairs] == quoted
+
+
+def test_words_on_less(browser: Browser, page: Path, records: RecordBench) -> None:
+    """A copy with a sample less, and no bytes."""
+    load(browser, page)
+    text = (TOP / "examples" / "wheels.stim").read_text()
+    less = wheels_of(records, "less", text.replace("sample 1 262\n", ""))
+    words = choose(browser, [wheels_of(records, "wheels", text), less])["words"]
+    assert words == (
+        "Copy 1 differs from copy 0: the samples of cycle 2 differ. Copy 0 has sample 1 262. "
+        "Copy 1 has no further sample."
+    )
+    lines = ("output -", "element 7 - 3")
+    found = [browser.value(f"lineInWords('{it}', {{ job: 9, events: 0 }})") for it in lines]
+    assert found == ["no bytes", "no bytes, 3 draws"]
+
+
+def test_times_are_exact(browser: Browser, page: Path, records: RecordBench) -> None:
+    """Also those beyond 2^53, and their steps. A number of a chart that isn't exact says so."""
+    load(browser, page)
+    times = [1_700_000_000_000_000_001 + 10_000_000 * k for k in range(4)]
+    cycles = "".join(f"cycle {it}\n" for it in times)
+    choose(browser, [wheels_of(records, "late", f"stim 1\n{cycles}terminate\n")])
+    charts = browser.value("[...document.querySelectorAll('.chart')].map((it) => it.textContent)")
+    assert "step of time to the cycle, in ns, from 10,000,000 to 10,000,000" in charts
+    pointed = (
+        "(() => { const it = document.querySelector('.copy canvas'); "
+        "const { left, top } = it.getBoundingClientRect(); it.dispatchEvent("
+        "new MouseEvent('mousemove', { clientX: left + 4, clientY: top + 4 })); "
+        "return document.getElementById('tip').textContent })()"
+    )
+    assert browser.value(pointed).startswith(f"cycle 1: finished, time {times[0]:,} ns, ")
+    assert browser.value("number(2 ** 63)") == "about 9,223,372,036,854,780,000"
 
 
 def test_page_that_cant_run(browser: Browser, records: RecordBench) -> None:
@@ -309,6 +346,30 @@ def test_records_that_come_fast(browser: Browser, page: Path) -> None:
     files = "[{ name: '%s', blob: new Blob(['x']) }]"
     browser.value(f"(take({files % 'a'}), take({files % 'b'})).then(() => 1)")
     assert [row[1] for row in browser.value(SHOWN)["copies"]] == ["b"]
+
+
+def test_choice_before_other_records(browser: Browser, page: Path, records: RecordBench) -> None:
+    """What was asked for before other records came is dropped."""
+    load(browser, page)
+    choose(browser, [records.file("whole.rec", WHOLE)])
+    browser.value(
+        "(() => { showChosenCycle(); "
+        "return take([{ name: 'x', blob: new Blob(['x']) }]).then(() => 1) })()"
+    )
+    assert browser.value(SHOWN)["verdict"] == "bad record: copy 0 offset 0 magic"
+    assert browser.errors == []
+
+
+def test_drop_without_files(browser: Browser, page: Path, records: RecordBench) -> None:
+    """A text that is dropped changes nothing."""
+    load(browser, page)
+    shown = choose(browser, [records.file("whole.rec", WHOLE)])
+    text = "(() => { const it = new DataTransfer(); it.setData('text/plain', 'x'); return it })()"
+    browser.value(
+        f"(document.dispatchEvent(new DragEvent('drop', {{ dataTransfer: {text} }})), "
+        "new Promise((resolve) => setTimeout(() => resolve(1))))"
+    )
+    assert browser.value(SHOWN) == shown
 
 
 def test_too_many_records(browser: Browser, page: Path, records: RecordBench) -> None:
