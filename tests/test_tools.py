@@ -11,6 +11,7 @@ from typing import Any
 import pytest
 
 from commands import TOP, Outcome, run
+from det_tool import whole_file, write_file
 from record_bench import RecordBench
 
 # A page takes the elements of its records in place of this mark.
@@ -174,6 +175,35 @@ def test_failed_write(tool: str, small: RecordBench) -> None:
     given = small.tool(f"{tool}.py", *CALLS[tool][0], "-o", "result", **how)
     assert given == Outcome(7, b"", f"{tool}: result: write fault: File too large\n".encode())
     assert (small.folder / "result").read_text() == "as before"
+    assert names_in(small) == sorted([*FILES, "result"])
+
+
+@pytest.mark.parametrize("tool", CALLS)
+def test_names_of_the_user(tool: str, small: RecordBench) -> None:
+    """A file or a link whose name looks like that of a temporary file stays as it is. A new file
+    has the mode that the umask gives it."""
+    words, expected = CALLS[tool]
+    small.file(".result.new", "of the user")
+    (small.folder / ".other.new").symlink_to("a.rec")
+    for name in ("result", "other"):
+        how: dict[str, Any] = {"preexec_fn": lambda: os.umask(0o027)}
+        assert small.tool(f"{tool}.py", *words, "-o", name, **how) == Outcome(0, b"", b"")
+        assert (small.folder / name).read_text() == expected
+        assert (small.folder / name).stat().st_mode & 0o777 == 0o640
+    assert (small.folder / ".result.new").read_text() == "of the user"
+    assert (small.folder / ".other.new").is_symlink()
+    assert (small.folder / "a.rec").read_bytes() == RECORD
+    assert names_in(small) == sorted([*FILES, ".other.new", ".result.new", "other", "result"])
+
+
+def test_two_at_once(small: RecordBench) -> None:
+    """Two calls can write one file at a time. It is that of the call that ends last."""
+    path = small.folder / "result"
+    with whole_file(str(path)) as first:
+        first.write_text("of the first call")
+        write_file(str(path), ["of the second call"])
+        assert path.read_text() == "of the second call"
+    assert path.read_text() == "of the first call"
     assert names_in(small) == sorted([*FILES, "result"])
 
 

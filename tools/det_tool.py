@@ -11,8 +11,9 @@ from __future__ import annotations
 import argparse
 import os
 import re
-import shutil
+import stat
 import sys
+import tempfile
 from contextlib import contextmanager, suppress
 from pathlib import Path
 from typing import Any, Callable, Iterable, Iterator, NoReturn, Optional, Sequence, TextIO
@@ -96,6 +97,28 @@ def standard_output(name: object) -> Iterator[TextIO]:
         yield out
 
 
+def mode_of(path: Path) -> int:
+    """The mode of a file, or the one that a new file gets."""
+    if path.exists():
+        return stat.S_IMODE(path.stat().st_mode)
+    mask = os.umask(0o077)
+    os.umask(mask)
+    return 0o666 & ~mask
+
+
+@contextmanager
+def temporary_file(folder: Path) -> Iterator[Path]:
+    """An empty file whose name no other file has. It is removed if something fails."""
+    number, name = tempfile.mkstemp(prefix=".det_", suffix=".new", dir=folder)
+    os.close(number)
+    try:
+        yield Path(name)
+    except BaseException:
+        with suppress(OSError):
+            os.unlink(name)
+        raise
+
+
 @contextmanager
 def whole_file(name: str) -> Iterator[Path]:
     """A path to write to in place of a file, which then takes the file's place. So the file is
@@ -106,16 +129,10 @@ def whole_file(name: str) -> Iterator[Path]:
             yield Path(name)
         return
     path = Path(os.path.realpath(name))
-    new = path.with_name(f".{path.name}.new")
-    try:
-        with writing(name):
-            yield new
-            if path.exists():
-                shutil.copymode(path, new)
-            os.replace(new, path)
-    finally:
-        with suppress(OSError):
-            new.unlink()
+    with writing(name), temporary_file(path.parent) as new:
+        yield new
+        new.chmod(mode_of(path))
+        os.replace(new, path)
 
 
 def write_file(name: str, pieces: Iterable[str]) -> None:
