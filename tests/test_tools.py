@@ -5,6 +5,7 @@ from __future__ import annotations
 
 import os
 import resource
+import shutil
 import sys
 from typing import Any
 
@@ -23,6 +24,7 @@ FILLED = f"<html>\n{ELEMENT.format('a.rec')}{ELEMENT.format('b.rec')}</html>\n"
 TABLE = "t\n5\n"
 STIMULUS = "stim 1\ncycle 5\nterminate\n"
 FILES = ("a.rec", "b.rec", "log.csv", "page.html")
+CONTENTS = [RECORD, RECORD, TABLE.encode(), PAGE.encode()]
 # The words of a call that ends well, of each tool that writes a file.
 CALLS = {
     "det_stimulus": (["log.csv", "--time", "t"], STIMULUS),
@@ -77,13 +79,14 @@ BAD_WORDS = {
     "det_page --page page.html": "0 records: a page takes one to 8",
     "det_page" + 9 * " a.rec": "9 records: a page takes one to 8",
     "det_page a.rec b.rec -o ./b.rec": "-o ./b.rec: this file is read",
+    "det_page a.rec --page page.html -o ./page.html": "-o ./page.html: this file is read",
 }
 
 
 @pytest.fixture
 def small(records: RecordBench) -> RecordBench:
     """A folder with two records, a table and a page."""
-    for name, data in zip(FILES, (RECORD, RECORD, TABLE, PAGE)):
+    for name, data in zip(FILES, CONTENTS):
         records.file(name, data)
     return records
 
@@ -113,7 +116,24 @@ def test_bad_words(text: str, small: RecordBench) -> None:
     line, hint = given.err.decode().splitlines()
     assert (given.status, given.out, hint) == (2, b"", f"  see {tool} --help")
     assert line.startswith(f"{tool}: bad words: {BAD_WORDS[text]}")
-    assert [(small.folder / it).read_bytes() for it in FILES[:2]] == [RECORD, RECORD]
+    assert [(small.folder / it).read_bytes() for it in FILES] == CONTENTS
+
+
+@pytest.mark.parametrize("page", ("det_page.html", "out/page/det_page.html"))
+def test_page_of_the_tool(page: str, small: RecordBench) -> None:
+    """Without --page the tool reads the installed page, or the built one. It can't be written."""
+    tools = small.folder / "tools"
+    tools.mkdir()
+    for path in (TOP / "tools").glob("det_*.py"):
+        shutil.copy(path, tools)
+    (small.folder / page).parent.mkdir(parents=True, exist_ok=True)
+    small.file(page, PAGE)
+    words = [sys.executable, "-B", "tools/det_page.py", "a.rec", "b.rec"]
+    assert run(words, small.folder).out.decode() == FILLED
+    given = run([*words, "-o", page], small.folder)
+    line = f"det_page: bad words: -o {page}: this file is read\n  see det_page --help\n"
+    assert given == Outcome(2, b"", line.encode())
+    assert (small.folder / page).read_text() == PAGE
 
 
 OUTPUTS = ("det_record a.rec", "det_record a.rec --csv cycles")

@@ -37,17 +37,20 @@ HERE = Path(__file__).resolve().parent
 PAGES = (HERE.parent / PAGE, HERE.parent / "out" / "page" / PAGE)
 
 
-def read(path: Path) -> bytes:
+def file_bytes(path: Path) -> bytes:
     with reading(path):
         return path.read_bytes()
 
 
-def empty_page(given: Optional[Path]) -> str:
-    """The page without records."""
-    path = given or next((it for it in PAGES if it.is_file()), None)
+def page_file(given: argparse.Namespace) -> Optional[Path]:
+    """The page without records, if there is one."""
+    return given.page or next((it for it in PAGES if it.is_file()), None)
+
+
+def empty_page(path: Optional[Path]) -> str:
     if path is None:
         raise ReadFault(PAGE, "the page isn't built: `make page` builds it")
-    page = read(path).decode(errors="replace")
+    page = file_bytes(path).decode(errors="replace")
     if page.count(MARK) != 1:
         raise ReadFault(path, "it isn't a page that takes records")
     return page
@@ -56,7 +59,7 @@ def empty_page(given: Optional[Path]) -> str:
 def record_element(path: Path) -> str:
     """A record as an element of the page. A name that isn't UTF-8 is shown with replacements."""
     name = html.escape(os.fsencode(path.name).decode(errors="replace"))
-    data = base64.b64encode(read(path)).decode()
+    data = base64.b64encode(file_bytes(path)).decode()
     return f'<script type="text/plain" class="record" data-name="{name}">{data}</script>'
 
 
@@ -76,8 +79,9 @@ def parser() -> Parser:
 
 
 def work(given: argparse.Namespace) -> int:
-    check_output("-o", given.out, given.records)
-    page = page_with(given.records, given.page)
+    file = page_file(given)
+    check_output("-o", given.out, [*given.records, *([file] if file else [])])
+    page = page_with(given.records, file)
     if given.out is not None:
         write_file(given.out, [page])
         return 0
