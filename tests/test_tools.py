@@ -6,12 +6,16 @@ from __future__ import annotations
 import os
 import resource
 import shutil
+import signal
+import subprocess
 import sys
-from typing import Any
+from contextlib import contextmanager, suppress
+from typing import Any, Iterator
 
 import pytest
 
-from commands import TOP, Outcome, run
+from children import comes_true
+from commands import LIMIT, TOOLS, TOP, Outcome, run
 from det_tool import whole_file, write_file
 from record_bench import RecordBench
 
@@ -151,6 +155,15 @@ def test_full_output(text: str, small: RecordBench) -> None:
     assert given == Outcome(7, b"", line.encode())
 
 
+@pytest.mark.parametrize("tool", TOOLS)
+def test_full_output_of_help(tool: str, small: RecordBench) -> None:
+    """Help that can't be written is a write fault. No file was read."""
+    with open("/dev/full", "wb") as full:
+        given = call(small, f"{tool} --help", stdout=full)
+    line = f"{tool}: --help: write fault: standard output: No space left on device\n"
+    assert given == Outcome(7, b"", line.encode())
+
+
 def test_name_of_two_lines(small: RecordBench) -> None:
     """A name can't make two lines of one."""
     given = small.tool("det_record.py", "a\nbad record.rec")
@@ -249,3 +262,80 @@ def test_pipe(tool: str, small: RecordBench) -> None:
     finally:
         os.close(reader)
     assert pipe.is_fifo()
+
+
+SIGNALS = (signal.SIGHUP, signal.SIGINT, signal.SIGTERM)
+
+
+@contextmanager
+def reading_tool(bench: RecordBench, text: str, how: Any = signal.SIG_DFL) -> Iterator[Any]:
+    """A tool that has opened the pipe `pipe` to read, and a file that writes to the pipe."""
+    tool, *words = text.split()
+    command = [sys.executable, TOP / "tools" / f"{tool}.py", *words]
+    pipe, found = bench.folder / "pipe", []
+    os.mkfifo(pipe)
+
+    def handle_signals() -> None:
+        for number in SIGNALS:
+            signal.signal(number, how)
+
+    def is_open() -> bool:
+        with suppress(OSError):
+            found.append(os.open(pipe, os.O_WRONLY | os.O_NONBLOCK))
+        return bool(found)
+
+    pipes: Any = {"stdout": subprocess.PIPE, "stderr": subprocess.PIPE}
+    with subprocess.Popen(command, cwd=bench.folder, preexec_fn=handle_signals, **pipes) as child:
+        try:
+            assert comes_true(is_open, LIMIT)
+            with open(found[0], "wb", buffering=0) as writer:
+                yield child, writer
+        finally:
+            child.kill()
+
+
+def end_of(child: Any) -> Outcome:
+    out, err = child.communicate(timeout=LIMIT)
+    return Outcome(child.returncode, out, err)
+
+
+def end_by(child: Any, number: signal.Signals) -> Outcome:
+    """Sends a signal until the tool ends: Python sees one that comes just before a call of the
+    system only after that call."""
+
+    def is_over() -> bool:
+        child.send_signal(number)
+        return child.poll() is not None
+
+    assert comes_true(is_over, LIMIT)
+    return end_of(child)
+
+
+@pytest.mark.parametrize("number", SIGNALS)
+@pytest.mark.parametrize("text", ("det_record pipe", "det_page pipe --page page.html"))
+def test_signal(text: str, number: signal.Signals, small: RecordBench) -> None:
+    """A signal ends a tool as it ends other programs, without a line."""
+    with reading_tool(small, text) as (child, _):
+        assert end_by(child, number) == Outcome(-number, b"", b"")
+
+
+@pytest.mark.parametrize("number", SIGNALS)
+def test_signal_while_writing(number: signal.Signals, small: RecordBench) -> None:
+    """After a signal the result is as it was before, and the temporary file is gone."""
+    small.file("result", "as before")
+    with reading_tool(small, "det_stimulus pipe --time t -o result") as (child, writer):
+        writer.write(TABLE.encode())
+        assert comes_true(lambda: len(names_in(small)) == len(FILES) + 3, LIMIT)
+        assert end_by(child, number) == Outcome(-number, b"", b"")
+    assert (small.folder / "result").read_text() == "as before"
+    assert names_in(small) == sorted([*FILES, "pipe", "result"])
+
+
+def test_ignored_signals(small: RecordBench) -> None:
+    """What ignores a signal, as `nohup` does, has the tool ignore it."""
+    with reading_tool(small, "det_stimulus pipe --time t", signal.SIG_IGN) as (child, writer):
+        for number in SIGNALS:
+            child.send_signal(number)
+        writer.write(TABLE.encode())
+        writer.close()
+        assert end_of(child) == Outcome(0, STIMULUS.encode(), b"")

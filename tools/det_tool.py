@@ -2,8 +2,8 @@
 output is written. Apart from them, because each of them is a program.
 
 The line is `TOOL: NAME: KIND: WHY`. NAME is the file that can't be read, written or taken. If
-standard output can't be written, it is the file that was read. On bad words there is no NAME. A
-character that can't be printed is shown as `?`, so a line is one line.
+standard output can't be written, it is the file that was read, or `--help`. On bad words there is
+no NAME. A character that can't be printed is shown as `?`, so a line is one line.
 """
 
 from __future__ import annotations
@@ -11,6 +11,7 @@ from __future__ import annotations
 import argparse
 import os
 import re
+import signal
 import stat
 import sys
 import tempfile
@@ -23,6 +24,9 @@ VERSION = Path(__file__).resolve().parent.parent / "VERSION"
 STANDARD_OUTPUT, STANDARD_ERROR = 1, 2
 # The system's number in a text of HDF5.
 OF_HDF5 = re.compile(r"\berrno = (\d+)")
+SIGNALS = (signal.SIGHUP, signal.SIGINT, signal.SIGTERM)
+# The temporary files that a signal removes.
+temporary_names: set[str] = set()
 BAD_WORDS, BAD_TABLE, BAD_RECORD, NOT_READ, NOT_WRITTEN, NO_PACKAGE = 2, 4, 5, 6, 7, 11
 
 
@@ -91,7 +95,7 @@ def writing(name: object, what: str = "") -> Iterator[None]:
 
 @contextmanager
 def standard_output(name: object) -> Iterator[TextIO]:
-    """Standard output, which may be closed. `name` is the file that is read."""
+    """Standard output, which may be closed. `name` is the file that is read, or an option."""
     how: dict[str, Any] = {"encoding": "utf-8", "newline": "", "closefd": False}
     with writing(name, "standard output"), open(STANDARD_OUTPUT, "w", **how) as out:
         yield out
@@ -110,6 +114,7 @@ def mode_of(path: Path) -> int:
 def temporary_file(folder: Path) -> Iterator[Path]:
     """An empty file whose name no other file has. It is removed if something fails."""
     number, name = tempfile.mkstemp(prefix=".det_", suffix=".new", dir=folder)
+    temporary_names.add(name)
     os.close(number)
     try:
         yield Path(name)
@@ -117,6 +122,8 @@ def temporary_file(folder: Path) -> Iterator[Path]:
         with suppress(OSError):
             os.unlink(name)
         raise
+    finally:
+        temporary_names.remove(name)
 
 
 @contextmanager
@@ -174,13 +181,36 @@ class Parser(argparse.ArgumentParser):
         about = "print the tool's name and the version, and exit"
         self.add_argument("--version", action=PrintVersion, help=about)
 
+    def print_help(self, file: object = None) -> None:
+        with standard_output("--help") as out:
+            out.write(self.format_help())
+
     def error(self, message: str) -> NoReturn:
         raise BadWords(message)
+
+
+def end_by_signal(number: int, _: object) -> NoReturn:
+    """Ends as a signal ends a program that doesn't catch it, but without temporary files."""
+    for name in temporary_names:
+        with suppress(OSError):
+            os.unlink(name)
+    signal.signal(number, signal.SIG_DFL)
+    os.kill(os.getpid(), number)
+    # If the signal is blocked.
+    os._exit(128 + number)
+
+
+def catch_signals() -> None:
+    """A signal that is ignored, as below `nohup`, stays ignored."""
+    for number in SIGNALS:
+        if signal.getsignal(number) != signal.SIG_IGN:
+            signal.signal(number, end_by_signal)
 
 
 def run_tool(parser: Parser, work: Callable[[argparse.Namespace], int]) -> int:
     """Runs a tool with its arguments, and returns its status. If it fails, a line says why. After a
     line on bad words a hint says where help is, as that of `det` does."""
+    catch_signals()
     try:
         return work(parser.parse_args())
     except Failed as why:
