@@ -1,14 +1,17 @@
 """The completions for bash: made from the programs' texts, and what they offer.
 
-A completion is called as bash calls it: the function that it registers gets the words in
-COMP_WORDS and leaves its offers in COMPREPLY. Nothing but bash is needed.
+Bash itself reads what is typed from a pipe, as from a terminal: it splits the line into words, calls
+the function that a completion registers, and puts what is offered into the line. Nothing but bash
+is needed.
 """
 
 from __future__ import annotations
 
 import re
+import shlex
 import shutil
 import sys
+import tempfile
 from pathlib import Path
 
 import pytest
@@ -20,10 +23,16 @@ SOURCES = ("tools/*.py", "tools/completion.bash", "completions/*", "crates/*/src
 STIMULUS_OPTIONS = {"--time", "--unit", "--event", "--scale", "--range", "--exact", "--delimiter"}
 STIMULUS_OPTIONS |= {"-o", "-h", "--help", "--version"}
 TEXTS = ("crates/*/src/pages.rt", "crates/cli_words/src/table.rt")
-SCRIPT = """source "$0"; COMP_WORDS=("$@"); COMP_CWORD=$(($# - 1))
-registered=$(complete -p "$1"); function=${registered#*-F }
-"${function%% *}"; printf '%s\\n' "${COMPREPLY[@]}"
+# What bash reads when it starts: a tab gives the offers to a file, and Ctrl-T the line.
+SCRIPT = """PS1=; source {completion}
+registered=$(complete -p {name}); function=${{registered#*-F }}; function=${{function%% *}}
+offer() {{ "$function" "$@" 2>{room}/errors; printf '%s\\n' "${{COMPREPLY[@]}}" >{room}/offers; }}
+complete -F offer {name}
+bind -x '"\\C-t": printf "%s" "$READLINE_LINE" >{room}/line'
 """
+SETTINGS = ("HISTFILE=/dev/null", "INPUTRC=/dev/null", "TERM=dumb")
+# Ctrl-U empties the line, so that it isn't run.
+KEYS = "{}\t\x14\x15"
 FILES = ("a.toml", "b.toml", "a.stim", "a.rec", "b.rec", "a.csv", "folder/c.toml", "other/plain")
 NUMBERS = {str(it) for it in range(2, 9)}
 FIRST = {*COMMANDS, "help", "version"}
@@ -89,21 +98,44 @@ OFFERS = {
     "det_stimulus ": {"a.csv", *FOLDERS},
     "det_stimulus a.csv ": STIMULUS_OPTIONS,
     "det_stimulus a.csv --event 0=a ": STIMULUS_OPTIONS,
+    "det_stimulus --event 0=a ": {"a.csv", *FOLDERS},
+    "det_stimulus --event 0=a --scale 0=1/3 a": {"a.csv"},
+    "det_stimulus --event 0=a=b:c ": {"a.csv", *FOLDERS},
+    'det_stimulus --event 0="a b" ': {"a.csv", *FOLDERS},
+    "det_stimulus --event 0=": set(),
+    "det_stimulus --event 0=a": set(),
+    "det_stimulus --event 0= ": {"a.csv", *FOLDERS},
+    "det_stimulus --time=t ": {"a.csv", *FOLDERS},
+    "det_stimulus --time=t --unit=": {"ns", "us", "ms", "s"},
+    "det_stimulus --time=t --unit=m": {"ms"},
+    "det_stimulus --time=t a.csv --ti": set(),
     "det_stimulus a.csv --time t --": STIMULUS_OPTIONS - {"--time", "-o", "-h"},
     "det_stimulus a.csv --unit ": {"ns", "us", "ms", "s"},
     "det_stimulus a.csv --time ": set(),
     "det_page a.rec b.rec ": RECORDS | {"-o", "--page", "-h", "--help", "--version"},
     "det_page a.rec -o b": {"b.toml", "b.rec"},
+    "det_page a.rec --page=b": {"b.toml", "b.rec"},
 }
 
 
+def complete(bench: Bench, typed: str, top: Path = TOP) -> tuple[list[str], str]:
+    """What is offered for the last word of a line, and the line after a tab."""
+    name = typed.split()[0]
+    with tempfile.TemporaryDirectory() as room:
+        paths = {"room": room, "completion": str(top / "completions" / name)}
+        values = {it: shlex.quote(path) for it, path in paths.items()}
+        (Path(room) / "start").write_text(SCRIPT.format(name=name, **values))
+        # Without a terminal, which bash would take from the tests.
+        how = {"input": KEYS.format(typed).encode(), "start_new_session": True}
+        words = ["env", *SETTINGS, "bash", "--rcfile", f"{room}/start", "-i"]
+        given = bench.run(*words, **how)
+        errors, found, line = ((Path(room) / it).read_text() for it in ("errors", "offers", "line"))
+    assert (given.status, errors) == (0, ""), f"{given} {errors}"
+    return found.split("\n")[:-1] if found != "\n" else [], line
+
+
 def offers(bench: Bench, typed: str, top: Path = TOP) -> list[str]:
-    """What is offered for the last word of a line."""
-    words = typed.split(" ")
-    path = top / "completions" / words[0]
-    given = bench.run("bash", "--norc", "-c", SCRIPT, path, *words)
-    assert (given.status, given.err) == (0, b""), str(given)
-    return [line for line in given.out.decode().split("\n") if line]
+    return complete(bench, typed, top)[0]
 
 
 @pytest.fixture
@@ -146,10 +178,27 @@ def test_options_are_those_of_the_help(tool: str, bench: Bench) -> None:
     assert set(offers(bench, f"{tool} -")) == words >= {"-h", "--help", "--version"}
 
 
-def test_a_name_with_spaces(typing: Bench) -> None:
-    """A name is one offer, whatever is in it."""
-    typing.file("my file.toml", "")
-    assert offers(typing, "det record my") == ["my file.toml"]
+# What is typed, and the line after a tab. Bash keeps what is before `=` and `:`.
+LINES = {
+    "det record my": "det record my\\ file.toml ",
+    "det record 1": "det record 1\\=2\\:3.toml ",
+    "det record 1=": "det record 1=2\\:3.toml ",
+    "det record 1=2": "det record 1=2\\:3.toml ",
+    "det record 1=2:": "det record 1=2:3.toml ",
+    "det record a.toml 1=2:": "det record a.toml 1=2:3.stim ",
+    "det record 1=2:3.toml a.s": "det record 1=2:3.toml a.stim ",
+    "det_stimulus --event 0=a a": "det_stimulus --event 0=a a.csv ",
+    "det_stimulus --unit=m": "det_stimulus --unit=ms ",
+    "det_record a.rec --hdf5=other/": "det_record a.rec --hdf5=other/plain ",
+}
+
+
+@pytest.mark.parametrize("typed", LINES)
+def test_line(typed: str, typing: Bench) -> None:
+    """A name is one word of the line, whatever is in it."""
+    for name in ("my file.toml", "1=2:3.toml", "1=2:3.stim"):
+        typing.file(name, "")
+    assert complete(typing, typed)[1] == LINES[typed]
 
 
 def completion(top: Path, word: str) -> Outcome:
@@ -171,6 +220,12 @@ def copy(tmp_path: Path) -> Path:
 def test_files_are_those_of_their_sources() -> None:
     assert completion(TOP, "--check") == Outcome(0, b"", b"")
     assert {it.name for it in (TOP / "completions").iterdir()} == {*NAMES, *TOOLS}
+
+
+@pytest.mark.parametrize("name", (*NAMES, *TOOLS))
+def test_lines_are_short(name: str) -> None:
+    lines = (TOP / "completions" / name).read_text().splitlines()
+    assert [it for it in lines if len(it) > 100] == []
 
 
 PAGES = "crates/det_cli/src/pages.rt"

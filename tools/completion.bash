@@ -1,4 +1,5 @@
-# Completion of @NAME@ for bash. Made by tools/completion.py from @SOURCE@.
+# Completion of @NAME@ for bash.
+# Made by tools/completion.py from @SOURCE@.
 # shellcheck shell=bash disable=SC2034,SC2207
 
 # What a command takes: its names in order, how many at most, and its options. An option is
@@ -54,19 +55,39 @@ _@NAME@_options() {
     COMPREPLY+=($(compgen -W "${words[*]}" -- "$current"))
 }
 
-# Reads the words between the command and the one that is typed: `count` names were given, no option
-# of `excluded` may follow, and `due` values of the option `last` are missing.
+# Puts the words up to the cursor into `typed`. Bash also splits a word at `=` and `:`: a piece that
+# follows such a one without a space belongs to the same word. `kept` is what is before the last
+# piece of the last word, which an offer doesn't repeat.
+_@NAME@_words() {
+    local at piece='' before rest=$COMP_LINE
+    for ((at = 0; at <= COMP_CWORD; at++)); do
+        before=$piece piece=${COMP_WORDS[at]}
+        if [[ $rest != [[:space:]]* && ($piece == [=:]* || $before == *[=:]) ]]; then
+            kept=${typed[-1]}
+            typed[-1]+=$piece
+        else
+            kept=''
+            typed+=("$piece")
+        fi
+        rest=${rest#*"$piece"}
+    done
+    [[ ${piece//[=:]/} ]] || kept+=$piece
+}
+
+# Reads the words between the command and the last one: `count` names were given, no option of
+# `excluded` may follow, and `due` values of the option `last` are missing. An option may have its
+# value after `=`.
 _@NAME@_read() {
-    local at option word values others
-    for ((at = $1; at < COMP_CWORD; at++)); do
+    local given option word values others
+    for given in "${typed[@]:$1:${#typed[@]}-$1-1}"; do
         if ((due)); then
             ((due--))
             continue
         fi
         for option in "${options[@]}"; do
             IFS=: read -r word values others <<<"$option"
-            if [[ ${COMP_WORDS[at]} == "$word" ]]; then
-                due=${values%+} last=$word
+            if [[ $given == "$word" || $given == "$word="* ]]; then
+                [[ $given == "$word" ]] && due=${values%+} last=$word
                 [[ $values == *+ ]] || excluded+=":$word:"
                 excluded+=":$others:"
                 continue 2
@@ -76,20 +97,20 @@ _@NAME@_read() {
     done
 }
 
-_@NAME@() {
+# Offers what the last word can be.
+_@NAME@_offer() {
     local commands='@COMMANDS@'
     local own='@OWN_WORDS@' dashed='@DASHED@'
     local names=() most=0 options=() count=0 due=0 last='' excluded=''
-    local current=${COMP_WORDS[COMP_CWORD]} first=1 command='' name
-    COMPREPLY=()
+    local current=${typed[-1]} place=$((${#typed[@]} - 1)) first=1 command='' name
     if [[ $commands ]]; then
-        first=2 command=${COMP_WORDS[1]}
-        if ((COMP_CWORD == 2)) && [[ $command == --help || $command == help ]]; then
+        first=2 command=${typed[1]}
+        if ((place == 2)) && [[ $command == --help || $command == help ]]; then
             COMPREPLY=($(compgen -W "$commands" -- "$current"))
             return
         fi
     fi
-    if ((COMP_CWORD == 1)) && [[ $commands || ($own && $current == -*) ]]; then
+    if ((place == 1)) && [[ $commands || ($own && $current == -*) ]]; then
         # Without a beginning, only words that say what to do.
         [[ $current ]] && own+=" $dashed"
         COMPREPLY=($(compgen -W "$commands $own" -- "$current"))
@@ -101,9 +122,14 @@ _@NAME@() {
         _@NAME@_value "$last"
         return 0
     fi
+    if [[ $current == -*=* && $kept ]]; then
+        last=${current%%=*} current=${current#*=}
+        _@NAME@_value "$last"
+        return 0
+    fi
     if [[ $current == -* ]]; then
         _@NAME@_options
-        if [[ $commands ]] && ((COMP_CWORD == 2)); then
+        if [[ $commands ]] && ((place == 2)); then
             COMPREPLY+=($(compgen -W --help -- "$current"))
         fi
         return
@@ -113,6 +139,14 @@ _@NAME@() {
         _@NAME@_name "$name"
     fi
     if ((count >= ${#names[@]})) && [[ ! $current ]]; then _@NAME@_options; fi
+}
+
+_@NAME@() {
+    local typed=() kept=''
+    COMPREPLY=()
+    _@NAME@_words
+    _@NAME@_offer
+    COMPREPLY=("${COMPREPLY[@]#"$kept"}")
 }
 
 complete -F _@NAME@ @NAME@

@@ -20,6 +20,7 @@ import argparse
 import importlib
 import re
 import sys
+import textwrap
 from dataclasses import dataclass, replace
 from typing import Iterator
 
@@ -34,6 +35,14 @@ COPIES = re.compile(r"COPIES +the number of copies, (\d+) to (\d+)")
 ALSO = re.compile(r"(?<![\w-])(?:-[A-Za-z]|[a-z]+)(?![\w-])")
 # How many values an option has that takes all further words, and how many names a tool takes.
 MANY = 99
+# Bash takes the end of a line for a space in an array and between assignments.
+WRAPPER = textwrap.TextWrapper(
+    width=100,
+    initial_indent=" " * 4,
+    subsequent_indent=" " * 8,
+    break_long_words=False,
+    break_on_hyphens=False,
+)
 # Nothing is offered for the value of another option.
 OTHERS = "    *) ;;"
 
@@ -128,11 +137,11 @@ def array(words: list[str]) -> str:
 
 
 def arm(word: str, call: Call) -> str:
-    """The line that says what a command takes."""
+    """The lines that say what a command takes."""
     options = array([str(it) for it in call.options])
     takes = f"names={array(call.names)} most={call.most} options={options}"
     pattern = word if word else "*"
-    return f"    {pattern}) {takes} ;;"
+    return WRAPPER.fill(f"{pattern}) {takes} ;;")
 
 
 def numbers(usage: str) -> str:
@@ -141,7 +150,7 @@ def numbers(usage: str) -> str:
     return " ".join(map(str, range(int(found[1]), int(found[2]) + 1))) if found else ""
 
 
-def filled(values: dict[str, str]) -> str:
+def fill_code(values: dict[str, str]) -> str:
     """The code with what it says of a program."""
     made = CODE.read_text(encoding="utf-8")
     for key, value in values.items():
@@ -165,10 +174,10 @@ def completion_of(name: str) -> str:
         "VALUES": OTHERS,
         "CALLS": "\n".join(arms + ["    *) return 1 ;;"] * bool(commands)),
     }
-    return filled(values)
+    return fill_code(values)
 
 
-def excluded(parser: argparse.ArgumentParser, action: argparse.Action) -> list[str]:
+def exclusions(parser: argparse.ArgumentParser, action: argparse.Action) -> list[str]:
     """The other options of a group of which one may be given."""
     groups = [it._group_actions for it in parser._mutually_exclusive_groups]
     others = [it for group in groups if action in group for it in group if it is not action]
@@ -191,7 +200,7 @@ def completion_of_tool(name: str) -> str:
     given = [it for it in parser._actions if it.option_strings]
     (names,) = [it for it in parser._actions if not it.option_strings]
     options = [
-        Option(word, int(it.nargs != 0), excluded(parser, it), isinstance(it.default, list))
+        Option(word, int(it.nargs != 0), exclusions(parser, it), isinstance(it.default, list))
         for it in given
         for word in it.option_strings
     ]
@@ -207,7 +216,7 @@ def completion_of_tool(name: str) -> str:
         "VALUES": "\n".join([*arms, OTHERS]),
         "CALLS": arm("", Call([str(names.metavar)], most, options)),
     }
-    return filled(values)
+    return fill_code(values)
 
 
 def main() -> int:
