@@ -80,7 +80,7 @@ def call(words: Sequence[str], folder: Path, **more: str) -> str:
     return done.stdout.decode()
 
 
-def stripped(data: bytes, words: Sequence[str]) -> bytes:
+def strip_symbols(data: bytes, words: Sequence[str]) -> bytes:
     """A program or an archive without what only a debugger reads."""
     with tempfile.TemporaryDirectory() as name:
         file = Path(name) / "file"
@@ -89,19 +89,19 @@ def stripped(data: bytes, words: Sequence[str]) -> bytes:
         return file.read_bytes()
 
 
-def packed(data: bytes) -> bytes:
+def gzip_bytes(data: bytes) -> bytes:
     """The bytes as gzip has them, the same at any time."""
     return gzip.compress(data, 9, mtime=0)
 
 
-def fitted(copy: Copy) -> Copy:
+def debian_copy(copy: Copy) -> Copy:
     """A file as Debian wants it."""
     if copy.data.startswith(b"\x7fELF"):
-        return replace(copy, data=stripped(copy.data, STRIP_PROGRAM))
+        return replace(copy, data=strip_symbols(copy.data, STRIP_PROGRAM))
     if copy.to.endswith(".a"):
-        return replace(copy, data=stripped(copy.data, STRIP_LIBRARY))
+        return replace(copy, data=strip_symbols(copy.data, STRIP_LIBRARY))
     if copy.to.startswith(f"{PLACES.mandir}/"):
-        return replace(copy, to=f"{copy.to}.gz", data=packed(copy.data))
+        return replace(copy, to=f"{copy.to}.gz", data=gzip_bytes(copy.data))
     if copy.data.startswith(b"#!"):
         return replace(copy, mode=install.PROGRAM)
     return copy
@@ -144,7 +144,7 @@ def papers(name: str, when: int) -> list[Copy]:
     folder = f"share/doc/{name}"
     copies = [
         Copy(f"{folder}/copyright", install.source("packaging/copyright")),
-        Copy(f"{folder}/changelog.gz", packed(changelog(when))),
+        Copy(f"{folder}/changelog.gz", gzip_bytes(changelog(when))),
     ]
     overrides = f"packaging/{name}.lintian-overrides"
     if (TOP / overrides).is_file():
@@ -167,7 +167,7 @@ def needed_libraries(programs: Sequence[Copy]) -> str:
 
 
 def program_package(given: argparse.Namespace, when: int) -> Package:
-    programs = [fitted(it) for it in install.programs(given.programs)]
+    programs = [debian_copy(it) for it in install.programs(given.programs)]
     others = [*install.manuals(PLACES), *install.completions(), *install.tools("/usr", PYTHON)]
     others += [*install.page(), *install.documents(), *papers("det", when)]
     fields = {
@@ -182,7 +182,7 @@ def program_package(given: argparse.Namespace, when: int) -> Package:
         "with contracts; README.md says what is proved of them."
     )
     brief = "records of deterministic cyclic jobs"
-    return Package("det", fields, brief, about, [*programs, *map(fitted, others)])
+    return Package("det", fields, brief, about, [*programs, *map(debian_copy, others)])
 
 
 def library_package(given: argparse.Namespace, when: int) -> Package:
@@ -197,7 +197,7 @@ def library_package(given: argparse.Namespace, when: int) -> Package:
         "records of the package det. The package det has its documents and examples."
     )
     brief = "deterministic client for applications in C++"
-    return Package(name, fields, brief, about, list(map(fitted, copies)))
+    return Package(name, fields, brief, about, list(map(debian_copy, copies)))
 
 
 def control(package: Package) -> str:

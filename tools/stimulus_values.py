@@ -23,7 +23,7 @@ class BadCell(Exception):
     """A cell isn't what its column has; the text says why."""
 
 
-def shown(text: str) -> str:
+def quote(text: str) -> str:
     """A text for a line of error: its beginning, if it is long."""
     return repr(text if len(text) <= MOST_LETTERS else f"{text[:MOST_LETTERS]}..")
 
@@ -31,7 +31,7 @@ def shown(text: str) -> str:
 def decimal_of(text: str) -> Fraction:
     """A decimal such as 12, -0.5, .5 or 1e-3, exactly."""
     if len(text) > MOST_LETTERS or not DECIMAL.fullmatch(text):
-        raise BadCell(f"{shown(text)} isn't a decimal number")
+        raise BadCell(f"{quote(text)} isn't a decimal number")
     return Fraction(text)
 
 
@@ -43,14 +43,14 @@ def factor_of(text: str) -> Fraction:
     else:
         factor = decimal_of(text)
     if factor == 0:
-        raise BadCell(f"{shown(text)} is 0, so it leaves nothing of a value")
+        raise BadCell(f"{quote(text)} is 0, so it leaves nothing of a value")
     return factor
 
 
 def whole_of(text: str) -> int:
     """A whole number, as an end of a range."""
     if not WHOLE.fullmatch(text):
-        raise BadCell(f"{shown(text)} isn't a whole number")
+        raise BadCell(f"{quote(text)} isn't a whole number")
     return int(text)
 
 
@@ -60,9 +60,9 @@ def time_of(text: str, unit: str) -> Optional[int]:
         return None
     time = decimal_of(text) * UNITS[unit]
     if time.denominator != 1:
-        raise BadCell(f"{shown(text)} {unit} isn't a whole number of nanoseconds")
+        raise BadCell(f"{quote(text)} {unit} isn't a whole number of nanoseconds")
     if not 0 <= time <= MOST_TIME:
-        raise BadCell(f"{shown(text)} {unit} isn't from 0 to 2^64 - 1 nanoseconds")
+        raise BadCell(f"{quote(text)} {unit} isn't from 0 to 2^64 - 1 nanoseconds")
     return int(time)
 
 
@@ -82,8 +82,8 @@ class Rule:
             return None
         product = decimal_of(text) * self.factor
         if self.is_exact and product.denominator != 1:
-            raise BadCell(f"{shown(text)} times {self.factor} isn't a whole number")
+            raise BadCell(f"{quote(text)} times {self.factor} isn't a whole number")
         value = round(product)
         if not self.least <= value <= self.most:
-            raise BadCell(f"{shown(text)} gives {value}, which isn't {self.least} to {self.most}")
+            raise BadCell(f"{quote(text)} gives {value}, which isn't {self.least} to {self.most}")
         return value
