@@ -173,28 +173,35 @@ def test_refused_tables(table: str, words: tuple, line: Any, records: RecordBenc
     assert sorted(it.name for it in records.folder.iterdir()) == ["kept.stim", "log.csv"]
 
 
-BAD_WORDS = (
-    ("--event", "x"),
-    ("--event", "256=x"),
-    ("--event", "-1=x"),
-    ("--scale", "1=2"),
-    ("--scale", "0=0"),
-    ("--scale", "0=1/0"),
-    ("--scale", "0=2", "--scale", "0=3"),
-    ("--range", "0=3"),
-    ("--range", "0=3..2"),
-    ("--range", "0=0..1000000000001"),
-    ("--unit", "h"),
-    ("--delimiter", ""),
-    ("--delimiter", '"'),
-    ("-o", "log.csv"),
-)
+DELIMITER = "--delimiter takes one character that isn't a quote or the end of a line"
+# Words that don't fit, and how the line begins after `bad words: `.
+BAD_WORDS = {
+    ("--event", "x"): "--event x: it takes EVENT=..",
+    ("--event", "256=x"): "--event 256=x: events are 0 to 255",
+    ("--event=-1=x",): "--event -1=x: it takes EVENT=..",
+    ("--scale", "1=2"): "event 1 has no --event",
+    ("--scale", "0=0"): "--scale 0=0: '0' is 0, so it leaves nothing of a value",
+    ("--scale", "0=1/0"): "--scale 0=1/0: '1/0' isn't a decimal number",
+    ("--scale", "0=2", "--scale", "0=3"): "--scale 0=3: event 0 has one already",
+    ("--range", "1=2..3"): "event 1 has no --event",
+    ("--range", "0=3"): "--range 0=3: '' isn't a whole number",
+    ("--range", "0=3..2"): "--range 0=3..2: 3..2 isn't a range in -10^12 to 10^12",
+    ("--range", "0=0..1000000000001"): "--range 0=0..1000000000001: 0..1000000000001 isn't a range",
+    ("--unit", "h"): "argument --unit: invalid choice: 'h' (choose from",
+    ("--delimiter", ""): DELIMITER,
+    ("--delimiter", ",,"): DELIMITER,
+    ("--delimiter", '"'): DELIMITER,
+    ("-o", "log.csv"): "-o log.csv: this file is read",
+}
 
 
 @pytest.mark.parametrize("words", BAD_WORDS, ids=" ".join)
 def test_refused_words(words: tuple, records: RecordBench) -> None:
+    """One line says which word is refused, and why. The table stays as it is."""
     given = convert(records, "x\n1\n", "--event", "0=x", *words)
     assert (given.status, given.out) == (2, b""), str(given)
+    assert given.line().decode().startswith(f"det_stimulus: bad words: {BAD_WORDS[words]}")
+    assert (records.folder / "log.csv").read_text() == "x\n1\n"
 
 
 def test_statuses_of_converter(records: RecordBench) -> None:
