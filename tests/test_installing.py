@@ -8,6 +8,7 @@ from pathlib import Path
 import pytest
 
 from commands import NAMES, TOOLS, TOP, Bench, Outcome, Programs, run
+from test_packages import copy_of_the_top
 
 PREFIX = "/opt/of det"
 OWN_FOLDERS = ("share/det", "share/doc/det", "include/det", "lib/cmake/deterministic_client")
@@ -15,17 +16,21 @@ OTHER = "share/man/man1/other.1"
 LIBRARY = "lib/libdeterministic_client.a"
 
 
-def run_installer(programs: Programs, folder: Path, *words: str, umask: int = 0o022) -> Outcome:
-    """Runs the installer over the programs under test, below a folder."""
-    command = ["python3", str(TOP / "tools" / "install.py"), "--prefix", PREFIX]
+def run_installer(
+    programs: Programs, folder: Path, *words: str, umask: int = 0o022, top: Path = TOP
+) -> Outcome:
+    """Runs the installer over the programs under test, below a folder. All else is of the
+    repository, or of a copy of it."""
+    command = ["python3", str(top / "tools" / "install.py"), "--prefix", PREFIX]
     command += ["--destdir", str(folder), "--programs", str(programs.folder), *words]
-    return run(command, TOP, programs.environment(), preexec_fn=lambda: os.umask(umask))
+    return run(command, top, programs.environment(), preexec_fn=lambda: os.umask(umask))
 
 
 def files_of_package() -> list[str]:
-    """What is installed at least: programs, manual pages, documents, library and tools."""
+    """What is installed at least: programs, manual pages, completions, documents, library and
+    tools."""
     found = [f"bin/{it}" for it in NAMES] + [f"share/man/man1/{it}.1" for it in NAMES]
-    found += [f"share/bash-completion/completions/{it}" for it in NAMES]
+    found += [f"share/bash-completion/completions/{it}" for it in (*NAMES, *TOOLS)]
     documents = ("README.md", "docs/FORMATS.md", "examples/bank.toml", "examples/many/on_hosts.sh")
     found += [f"share/doc/det/{it}" for it in documents]
     found += [LIBRARY, "lib/pkgconfig/deterministic_client.pc"]
@@ -81,6 +86,22 @@ def test_install_and_uninstall(bench: Bench, library: Path) -> None:
     assert not second.status, str(second)
     assert [str(it.relative_to(root)) for it in root.rglob("*") if it.is_file()] == [OTHER]
     assert [it for it in OWN_FOLDERS if (root / it).exists()] == []
+
+
+def test_page(programs: Programs, folder: Path) -> None:
+    """The page is installed where it is built, and removed again."""
+    top, page = copy_of_the_top(folder / "top"), folder / f"to{PREFIX}" / "share/det/det_page.html"
+    (folder / "archive.a").write_bytes(b"an archive")
+    words = ["--library", str(folder / "archive.a")]
+    given = run_installer(programs, folder / "to", *words, top=top)
+    assert given.status == 0 and page.parent.is_dir() and not page.exists(), str(given)
+    built = top / "out" / "page" / "det_page.html"
+    built.parent.mkdir(parents=True)
+    built.write_text("a page")
+    given = run_installer(programs, folder / "to", *words, top=top)
+    assert given.status == 0 and page.read_text() == "a page", str(given)
+    given = run_installer(programs, folder / "to", "--uninstall", top=top)
+    assert given.status == 0 and not page.parent.exists(), str(given)
 
 
 def test_folders(bench: Bench, library: Path) -> None:
