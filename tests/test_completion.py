@@ -1,8 +1,8 @@
 """The completions for bash: made from the programs' texts, and what they offer.
 
-Bash itself reads what is typed from a pipe, as from a terminal: it splits the line into words, calls
-the function that a completion registers, and puts what is offered into the line. Nothing but bash
-is needed.
+Bash itself reads what is typed, from a pipe as from a terminal. It splits the line into words,
+calls the function that a completion registers, and puts what is offered into the line. Nothing but
+bash is needed.
 """
 
 from __future__ import annotations
