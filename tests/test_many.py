@@ -148,8 +148,44 @@ def test_two_folders(bench: Bench) -> None:
     assert torn == "runs/0003.rec: in frame 4, the run of cycle 2"
 
 
+def test_folders_with_braces(bench: Bench) -> None:
+    """What GNU parallel would replace in a name of a folder is kept, also in those of the scripts
+    and of the results."""
+    path_of("parallel")
+    record = bench.example("bank")
+    for name in ("x{}y", "{#} {= 1 =}"):
+        (bench.folder / name).mkdir()
+        (bench.folder / name / "{.} a.rec").write_bytes(record)
+    shutil.copytree(MANY, bench.folder / "{/}")
+    given = shell(bench, """bash "{/}/compare_all.sh" "x{}y" "{#} {= 1 =}" "{%}" """)
+    assert given == Outcome(0, b"records 1\nstatus 0 1\n", b""), str(given)
+    line = "0\tx{}y/{.} a.rec {#} {= 1 =}/{.} a.rec\tagree 3\t\n"
+    assert (bench.folder / "{%}").read_text() == line
+
+
+@pytest.mark.parametrize("name", ("results", "results.log", "none/results"))
+def test_results_not_written(bench: Bench, name: str) -> None:
+    """If the results can't be written, no summary of older ones is printed."""
+    path_of("parallel")
+    write_records(bench, 3)
+    bench.file("results", "0\truns/0000.rec\tgenuine 3\t\n" * 3)
+    results = "none/results" if name.startswith("none") else "results"
+    if results == "results":
+        (bench.folder / name).unlink(missing_ok=True)
+        (bench.folder / name).mkdir()
+    for call in ("check_all.sh runs", "compare_all.sh runs runs"):
+        given = shell(bench, f'bash "$many"/{call} {results}')
+        assert given == Outcome(3, b"", f"can't write {name}\n".encode()), str(given)
+
+
 CHECK_USAGE = "usage: check_all.sh FOLDER RESULTS [JOBS]"
 COMPARE_USAGE = "usage: compare_all.sh FOLDER FOLDER RESULTS [JOBS]"
+SUMMARY_USAGE = "usage: summary.sh COUNT RESULTS .."
+TASK_USAGE = "usage: slurm_check.sh MANY LIST RESULTS TASKS"
+HOST_USAGE = "usage: det_lane on_hosts.sh COPIES MANIFEST STIM [-- WORD ..]"
+WORKERS_USAGE = (
+    "usage: compare_workers.sh MANIFEST STIM FOLDER [WORKERS ..], with at most 7 WORKERS"
+)
 
 
 @pytest.mark.parametrize(
@@ -177,22 +213,84 @@ def task_names(bench: Bench, tasks: int) -> list[list[str]]:
     return [[line.split("\t")[1] for line in text.splitlines()] for text in texts]
 
 
-def test_tasks_without_cluster(bench: Bench) -> None:
-    """Three tasks take ten records in turn, and end with 1 if one of theirs isn't genuine."""
-    write_records(bench, 10)
+def run_task(bench: Bench, task: str, tasks: int = 3, names: str = "list results") -> Outcome:
+    """A task without a cluster."""
+    call = f'bash "$many/slurm_check.sh" "$many" {names} {tasks}'
+    return shell(bench, call, SLURM_ARRAY_TASK_ID=task)
+
+
+def summary(bench: Bench) -> Outcome:
+    """What the page says after the tasks."""
+    return shell(bench, indented("## A cluster with Slurm").splitlines()[-1])
+
+
+def write_list(bench: Bench, count: int) -> None:
+    """Records, and their names in the file `list`."""
+    write_records(bench, count)
     assert shell(bench, "find runs -name '*.rec' | sort > list").status == 0
-    call = 'bash "$many/slurm_check.sh" "$many" list results'
-    statuses = []
-    for task in "012":
-        given = shell(bench, call, SLURM_ARRAY_TASK_ID=task, SLURM_ARRAY_TASK_COUNT="3")
-        statuses.append(given.status)
+
+
+def test_tasks_without_cluster(bench: Bench) -> None:
+    """Three tasks take ten records in turn, and end with 1 if one of theirs isn't genuine. One task
+    alone can be run again."""
+    write_list(bench, 10)
     # The second record departs, the last is torn.
-    assert statuses == [1, 1, 0]
+    assert [run_task(bench, task).status for task in "012"] == [1, 1, 0]
     expected = [[f"runs/{it:04}.rec" for it in range(task, 10, 3)] for task in range(3)]
     assert task_names(bench, 3) == expected
-    given = shell(bench, 'bash "$many/summary.sh" results.*')
-    assert (given.status, given.out.decode()) == (1, summary_of(10))
-    assert shell(bench, call).status != 0
+    assert summary(bench) == Outcome(1, summary_of(10).encode(), b"")
+    (bench.folder / "results.1").write_text("of an earlier run\n")
+    assert run_task(bench, "1").status == 1
+    assert task_names(bench, 3) == expected
+
+
+def test_task_left_out(bench: Bench) -> None:
+    """The summary says how many records have no result, as if the array began with task 1, or a
+    task was killed."""
+    write_list(bench, 10)
+    given = summary(bench)
+    assert (given.status, given.last_line()) == (3, b"records without a result: 10")
+    assert [run_task(bench, task).status for task in "12"] == [1, 0]
+    assert run_task(bench, "3") == Outcome(2, b"", b"task 3 isn't below 3, the number of tasks\n")
+    given = summary(bench)
+    assert given.status == 3 and given.out.startswith(b"records 6\n"), str(given)
+    assert given.err == b"records without a result: 4\n"
+    # A task that is killed has no results, also not those of an earlier run.
+    text = f"""#!/bin/sh
+[ "$2" = runs/0005.rec ] || exec "{bench.programs.path("det")}" "$@"
+it=$PPID
+until grep -aq slurm_check /proc/$it/cmdline; do it=$(cut -d ' ' -f 4 /proc/$it/stat); done
+kill -9 $it
+"""
+    Path(bench.file("det", text)).chmod(0o755)
+    path = f"{bench.folder}:{bench.programs.environment()['PATH']}"
+    call = 'bash "$many/slurm_check.sh" "$many" list results 3'
+    given = shell(bench, f"{call} || true", SLURM_ARRAY_TASK_ID="2", PATH=path)
+    given = summary(bench)
+    assert given.status == 3 and given.out.startswith(b"records 3\n"), str(given)
+    for task in ("3", "4"):
+        shutil.copy(bench.folder / "results.1", bench.folder / f"results.{task}")
+    (bench.folder / "list").write_text("runs/0000.rec\n")
+    assert summary(bench).last_line() == b"results of no record: 8"
+
+
+def test_refused_tasks(bench: Bench) -> None:
+    """A task without a number, without a list, or with results that can't be written."""
+    write_list(bench, 3)
+    bench.file("empty", "")
+    (bench.folder / "results.2").mkdir()
+    for task, names, status, line in (
+        ("", "list results", 2, "SLURM_ARRAY_TASK_ID is no number: this is a task of an array"),
+        ("08", "list results", 2, "task 08 isn't below 3, the number of tasks"),
+        ("0", "none results", 2, "none is no list of records"),
+        ("0", "runs results", 2, "runs is no list of records"),
+        ("0", "empty results", 2, "empty is no list of records"),
+        ("0", "list none/results", 3, "can't write none/results.0"),
+        ("2", "list results", 3, "can't write results.2"),
+    ):
+        given = run_task(bench, task, names=names)
+        assert given == Outcome(status, b"", f"{line}\n".encode()), str(given)
+    assert not (bench.folder / "results.0").exists()
 
 
 @pytest.fixture

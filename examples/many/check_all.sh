@@ -11,4 +11,4 @@ need_folders "$1"
 list=$(mktemp)
 trap 'rm -f "$list"' EXIT
 find -H "$1" -type f -name '*.rec' -print0 | LC_ALL=C sort -z >"$list" || fail 3 "can't list $1"
-run_all "$list" "$2" "${3:-100%}" check {}
+run_all "$list" "$2" "${3:-100%}" check 1

@@ -11,6 +11,8 @@ source "$(dirname "${BASH_SOURCE[0]}")/run_all.sh"
 need_folders "$1" "$2"
 list=$(mktemp)
 trap 'rm -f "$list"' EXIT
-find -H "$1" "$2" -type f -name '*.rec' -printf '%P\0' | LC_ALL=C sort -zu >"$list" ||
-    fail 3 "can't list $1 and $2"
-run_all "$list" "$3" "${4:-100%}" compare "$1"/{} "$2"/{}
+find -H "$1" "$2" -type f -name '*.rec' -printf '%P\0' | LC_ALL=C sort -zu |
+    while IFS= read -r -d '' name; do
+        printf '%s\0' "$1/$name" "$2/$name"
+    done >"$list" || fail 3 "can't list $1 and $2"
+run_all "$list" "$3" "${4:-100%}" compare 2
