@@ -149,7 +149,8 @@ def running_cluster(bench: Bench) -> Iterator[dict[str, str]]:
 
 @dataclass(frozen=True)
 class Hosts:
-    """An ssh server under three names: the variables by which the scripts find it."""
+    """An ssh server under three names: the variables by which the scripts find it. At the host
+    `none` nothing listens, and the host `silent` takes connections and says nothing."""
 
     variables: dict[str, str]
 
@@ -163,7 +164,7 @@ StrictModes no
 UsePAM no
 PasswordAuthentication no
 MaxStartups 100
-SetEnv TMPDIR={folder}/temporary
+SetEnv TMPDIR="{folder}/temporary files"
 """
 SSH = """Host one two three
     HostName 127.0.0.1
@@ -175,6 +176,9 @@ SSH = """Host one two three
 Host none
     HostName 127.0.0.1
     Port {closed}
+Host silent
+    HostName 127.0.0.1
+    Port {silent}
 """
 
 
@@ -203,21 +207,25 @@ def make_folder_of_sshd() -> None:
 
 @contextlib.contextmanager
 def running_hosts(bench: Bench) -> Iterator[Hosts]:
-    """A server. No copy of a lane may leave a folder on it."""
+    """A server. No copy of a lane may leave a folder on it, or remove another one."""
     path_of("ssh")
     folder = bench.folder / "hosts"
-    temporary = folder / "temporary"
-    temporary.mkdir(parents=True)
+    # The second has a name that is the beginning of the first.
+    temporary, other = folder / "temporary files", folder / "temporary"
+    for it in (temporary, other):
+        it.mkdir(parents=True)
     write_keys(folder)
     port = free_port()
     (folder / "sshd_config").write_text(SSHD.format(port=port, folder=folder))
-    (folder / "ssh_config").write_text(SSH.format(port=port, folder=folder, closed=free_port()))
     make_folder_of_sshd()
     words = [path_of("sshd"), "-D", "-e", "-f", folder / "sshd_config"]
     logs = [folder / "sshd.log"]
     variables = {"DET_SSH_CONFIG": str(folder / "ssh_config")}
-    with server(words, logs[0]):
+    with socket.create_server(("127.0.0.1", 0)) as silent, server(words, logs[0]):
+        ports = {"port": port, "closed": free_port(), "silent": silent.getsockname()[1]}
+        (folder / "ssh_config").write_text(SSH.format(folder=folder, **ports))
         wait_until(lambda: is_open(port), logs)
         yield Hosts({**variables, "DET_REMOTE": bench.programs.path("det")})
         # A host whose connection was closed has a moment to see it.
         assert comes_true(lambda: not any(temporary.iterdir()), BEGIN), "a copy left a folder"
+        assert other.is_dir(), "a copy removed a folder"
