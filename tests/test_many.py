@@ -200,12 +200,28 @@ WORKERS_USAGE = (
         ("check_all.sh none results", "none is no folder"),
         ("compare_all.sh runs runs", COMPARE_USAGE),
         ("compare_all.sh runs none results", "none is no folder"),
+        ("summary.sh", SUMMARY_USAGE),
+        ("summary.sh 3", SUMMARY_USAGE),
+        ("summary.sh runs/0000.rec runs/0001.rec", SUMMARY_USAGE),
+        ("slurm_check.sh", TASK_USAGE),
+        ('slurm_check.sh "$many" list results', TASK_USAGE),
+        ('slurm_check.sh "$many" list results 0', TASK_USAGE),
+        ('slurm_check.sh "$many" list results x', TASK_USAGE),
+        ("slurm_check.sh runs list results 3", "runs has no one_line.sh"),
+        ("on_hosts.sh", HOST_USAGE),
+        ("on_hosts.sh record m s --workers", HOST_USAGE),
+        ("on_hosts.sh record m s --workers 0", HOST_USAGE),
+        ("on_hosts.sh check m s --workers 1", HOST_USAGE),
+        ("on_hosts.sh record m s --workers 1", "DET_HOSTS has no host"),
+        ("../ci/compare_workers.sh", WORKERS_USAGE),
+        ("../ci/compare_workers.sh m s", WORKERS_USAGE),
+        ("../ci/compare_workers.sh m s results 2 3 4 5 6 7 8 9", WORKERS_USAGE),
     ),
 )
 def test_wrong_words(bench: Bench, words: str, line: str) -> None:
     """Wrong words and a missing folder are told in one line, and nothing is written."""
     write_records(bench, 3)
-    given = shell(bench, f'bash "$many"/{words}')
+    given = shell(bench, f'bash "$many"/{words}', DET_HOSTS=" ")
     assert given == Outcome(2, b"", f"{line}\n".encode()), str(given)
     assert not (bench.folder / "results").exists()
 
@@ -460,27 +476,88 @@ def command_of_workflow() -> str:
     return found[0]
 
 
+def path_with_page(bench: Bench) -> str:
+    """A path with the tool `det_page`, over a page without scripts, and with the bench's folder."""
+    page = bench.file("empty.html", "<!--EMBEDDED-->\n")
+    tool = TOP / "tools" / "det_page.py"
+    text = f'#!/bin/sh\nexec python3 -B "{tool}" --page "{page}" "$@"\n'
+    Path(bench.file("det_page", text)).chmod(0o755)
+    return f"{bench.folder}:{bench.programs.environment()['PATH']}"
+
+
+def kept(bench: Bench) -> Path:
+    """The folder that the workflow uploads."""
+    found = re.findall(r"^ +path: (.+)$", (CI / "records.yml").read_text(), re.M)
+    return bench.folder / found[0]
+
+
+RECORDS = [f"workers-{it}.rec" for it in (1, 2, 4, 8)]
+
+
+def shown_records(bench: Bench) -> list[str]:
+    """The names of the records in the page that is kept."""
+    page = (kept(bench) / "page.html").read_text()
+    return re.findall(r'class="record" data-name="([^"]*)"', page)
+
+
 def test_workflow(bench: Bench) -> None:
     """The workflow's command, at the top of a checkout, passes, and leaves what is uploaded."""
     (bench.folder / "examples").symlink_to(TOP / "examples")
-    given = shell(bench, command_of_workflow())
+    given = shell(bench, command_of_workflow(), PATH=path_with_page(bench))
     assert given.status == 0 and given.out.endswith(b"agree 4\n"), str(given)
-    kept = re.findall(r"^ +path: (.+)$", (CI / "records.yml").read_text(), re.M)
-    names = sorted(it.name for it in (bench.folder / kept[0]).iterdir())
-    assert names == ["verdict.txt", *(f"workers-{it}.rec" for it in (1, 2, 4, 8))]
-    assert (bench.folder / kept[0] / "verdict.txt").read_bytes() == given.out
+    assert given.err == b""
+    names = sorted(it.name for it in kept(bench).iterdir())
+    assert names == ["page.html", "verdict.txt", *RECORDS]
+    assert (kept(bench) / "verdict.txt").read_bytes() == given.out
+    assert shown_records(bench) == RECORDS
+
+
+def test_workflow_without_page(bench: Bench) -> None:
+    """If the page or its tool isn't installed, a line says so, and the status is the same."""
+    (bench.folder / "examples").symlink_to(TOP / "examples")
+    path = path_with_page(bench)
+    (bench.folder / "empty.html").unlink()
+    given = shell(bench, command_of_workflow(), PATH=path)
+    line = f"det_page: {bench.folder}/empty.html: read fault: No such file or directory\n"
+    assert given.status == 0 and given.out.endswith(b"agree 4\n"), str(given)
+    assert given.err.decode() == line
+    # A folder with the programs that the script calls, and no other one.
+    (bench.folder / "few").mkdir()
+    for name in ("bash", "mkdir", "rm", "tee"):
+        (bench.folder / "few" / name).symlink_to(path_of(name))
+    (bench.folder / "few" / "det").symlink_to(bench.programs.path("det"))
+    given = shell(bench, command_of_workflow(), PATH=str(bench.folder / "few"))
+    assert given.status == 0 and given.out.endswith(b"agree 4\n"), str(given)
+    assert given.err == b"no page of the records: det_page isn't installed\n"
+    assert sorted(it.name for it in kept(bench).iterdir()) == ["verdict.txt", *RECORDS]
+
+
+def test_workflow_again(bench: Bench) -> None:
+    """What an earlier call left isn't kept beside the records of one that fails."""
+    (bench.folder / "examples").symlink_to(TOP / "examples")
+    path = path_with_page(bench)
+    assert shell(bench, command_of_workflow(), PATH=path).status == 0
+    (kept(bench) / "notes.txt").touch()
+    text = f"""[ "$5" != 4 ] || exit 7
+exec "{bench.programs.path("det")}" "$@"
+"""
+    remote(bench, "det", text)
+    assert shell(bench, command_of_workflow(), PATH=path) == Outcome(7, b"", b"")
+    names = sorted(it.name for it in kept(bench).iterdir())
+    assert names == ["notes.txt", *RECORDS[:3]]
+    (kept(bench) / "verdict.txt").mkdir()
+    assert shell(bench, command_of_workflow(), PATH=path).status == 3
 
 
 def test_workflow_finds_a_difference(bench: Bench) -> None:
     """If a number of workers changes a record, the command fails and the records are kept."""
     (bench.folder / "examples").symlink_to(TOP / "examples")
     # The script's words are those of a lane: `record MANIFEST STIM --workers K`.
-    text = FLIPPING.format(det=bench.programs.path("det"))
-    Path(bench.file("det", text)).chmod(0o755)
-    path = f"{bench.folder}:{bench.programs.environment()['PATH']}"
-    given = shell(bench, command_of_workflow(), PATH=path)
+    remote(bench, "det", FLIPPING.format(det=bench.programs.path("det")))
+    given = shell(bench, command_of_workflow(), PATH=path_with_page(bench))
     names = (f"out/records/workers-{workers}.rec" for workers in (1, 2, 4, 8))
     hints = "".join(f"  copy {copy}: {name}\n" for copy, name in enumerate(names))
     end = f"differ copy 1 header\n{hints}"
     assert given.status == 1 and given.out.decode().endswith(end), str(given)
-    assert len(list((bench.folder / "out" / "records").glob("*.rec"))) == 4
+    assert sorted(it.name for it in kept(bench).glob("*.rec")) == RECORDS
+    assert shown_records(bench) == RECORDS
