@@ -42,6 +42,15 @@ def section(name: str, heading: str) -> str:
     return found[1].split(f"\n{rank} ", 1)[0]
 
 
+def indented_lines(name: str, heading: str) -> str:
+    """The indented lines below a heading of a document, which are commands."""
+    lines = section(name, heading).splitlines()
+    found = [line[4:] for line in lines if line.startswith("    ")]
+    if not found:
+        raise ValueError(f"{name} has no command below {heading}")
+    return "\n".join(found)
+
+
 def first_cells(name: str, heading: str) -> list[str]:
     """The first cells of the tables below a heading, without those of their heads."""
     rows = [line for line in section(name, heading).splitlines() if line.startswith("|")]

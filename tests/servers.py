@@ -1,4 +1,5 @@
-"""A Slurm cluster of this machine alone, and an ssh server on its loopback, while a test runs."""
+"""What the tests of docs/MANY.md run: its scripts, and while a test runs a Slurm cluster of this
+machine alone, and an ssh server on its loopback."""
 
 from __future__ import annotations
 
@@ -15,7 +16,13 @@ from typing import Callable, Iterator
 from children import comes_true
 from commands import TOP, Bench, Outcome, run
 
-MANY = TOP / "examples" / "many"
+MANY, MANY_PAGE = TOP / "examples" / "many", "docs/MANY.md"
+CLOUD = (TOP / "examples" / "cloud.toml", TOP / "examples" / "cloud.stim")
+# A script of a program that flips the last bit of the header's seed if it has two workers.
+FLIPPING = """[ "$5" = 2 ] || exec "{det}" "$@"
+"{det}" "$@" | python3 -c 'import sys; b = bytearray(sys.stdin.buffer.read()); b[17] ^= 1
+sys.stdout.buffer.write(b)'
+"""
 # Where Debian has servers, which may not be in a user's path.
 SERVERS = "/usr/sbin:/sbin"
 PACKAGES = {
@@ -44,6 +51,13 @@ def shell(bench: Bench, text: str, **variables: str) -> Outcome:
     """Runs lines of bash in the bench's folder. A line that fails ends them."""
     environment = {**bench.programs.environment(), "many": str(MANY), **variables}
     return run(["bash", "-e", "-c", text], bench.folder, environment, limit=300)
+
+
+def write_script(bench: Bench, name: str, text: str) -> Path:
+    """A script of sh in the bench's folder, below its first line."""
+    path = Path(bench.file(name, f"#!/bin/sh\n{text}"))
+    path.chmod(0o755)
+    return path
 
 
 def free_port() -> int:

@@ -1,42 +1,21 @@
-"""Many records and many machines: the scripts of examples/many and examples/ci, over GNU parallel,
-a Slurm cluster of this machine alone, ssh servers on its loopback, and the command of a workflow.
-
-The commands of docs/MANY.md that aren't in console blocks are run here, over such a cluster and
-such servers. They need Debian's parallel, slurm-wlm, openssh-server, openssh-client and shellcheck.
+"""Many records: the scripts of examples/many over GNU parallel and over a Slurm cluster of this
+machine alone. What docs/MANY.md says of the cluster is run here. These need Debian's parallel,
+slurm-wlm and shellcheck.
 """
 
 from __future__ import annotations
 
-import re
-import shlex
 import shutil
-import signal
-import time
-from pathlib import Path
 from typing import Iterator
 
 import pytest
 
-from children import send
 from commands import TOP, Bench, Outcome, run
-from documents import section
-from servers import MANY, Hosts, NotBegun, path_of, running_cluster, running_hosts, shell
+from documents import indented_lines
+from servers import MANY, MANY_PAGE, NotBegun, path_of, running_cluster, shell, write_script
 
 CI = TOP / "examples" / "ci"
-CLOUD = (TOP / "examples" / "cloud.toml", TOP / "examples" / "cloud.stim")
-# A program that flips the last bit of the header's seed if it has two workers.
-FLIPPING = """[ "$5" = 2 ] || exec "{det}" "$@"
-"{det}" "$@" | python3 -c 'import sys; b = bytearray(sys.stdin.buffer.read()); b[17] ^= 1
-sys.stdout.buffer.write(b)'
-"""
-
-
-def indented(heading: str) -> str:
-    """The indented lines below a heading of docs/MANY.md."""
-    lines = section("docs/MANY.md", heading).splitlines()
-    found = [line[4:] for line in lines if line.startswith("    ")]
-    assert found, heading
-    return "\n".join(found)
+CLUSTER = "## A cluster with Slurm"
 
 
 def write_records(bench: Bench, count: int) -> None:
@@ -108,13 +87,12 @@ def test_killed_check(bench: Bench) -> None:
     path_of("parallel")
     write_records(bench, 4)
     # det's parent is the script, or a process of it that waits for det's output.
-    text = """#!/bin/sh
-[ "$2" = runs/0002.rec ] || exit 0
+    text = """[ "$2" = runs/0002.rec ] || exit 0
 for it in $(cut -d ' ' -f 4 /proc/$PPID/stat) $PPID; do
     head -c 5 /proc/$it/cmdline | grep -aq '^bash' && kill -9 $it
 done
 """
-    Path(bench.file("det", text)).chmod(0o755)
+    write_script(bench, "det", text)
     environment = bench.programs.environment()
     path = f"{bench.folder}:{environment['PATH']}"
     given = shell(bench, 'bash "$many/check_all.sh" runs results', PATH=path)
@@ -240,7 +218,7 @@ def run_task(bench: Bench, task: str, tasks: int = 3, names: str = "list results
 
 def summary(bench: Bench) -> Outcome:
     """What the page says after the tasks."""
-    return shell(bench, indented("## A cluster with Slurm").splitlines()[-1])
+    return shell(bench, indented_lines(MANY_PAGE, CLUSTER).splitlines()[-1])
 
 
 def write_list(bench: Bench, count: int) -> None:
@@ -275,13 +253,12 @@ def test_task_left_out(bench: Bench) -> None:
     assert given.status == 3 and given.out.startswith(b"records 6\n"), str(given)
     assert given.err == b"records without a result: 4\n"
     # A task that is killed has no results, also not those of an earlier run.
-    text = f"""#!/bin/sh
-[ "$2" = runs/0005.rec ] || exec "{bench.programs.path("det")}" "$@"
+    text = f"""[ "$2" = runs/0005.rec ] || exec "{bench.programs.path("det")}" "$@"
 it=$PPID
 until grep -aq slurm_check /proc/$it/cmdline; do it=$(cut -d ' ' -f 4 /proc/$it/stat); done
 kill -9 $it
 """
-    Path(bench.file("det", text)).chmod(0o755)
+    write_script(bench, "det", text)
     path = f"{bench.folder}:{bench.programs.environment()['PATH']}"
     call = 'bash "$many/slurm_check.sh" "$many" list results 3'
     given = shell(bench, f"{call} || true", SLURM_ARRAY_TASK_ID="2", PATH=path)
@@ -326,238 +303,9 @@ def test_cluster(bench: Bench, cluster: dict[str, str]) -> None:
     """The commands of the page, over a cluster: four tasks take ten records in turn."""
     path_of("sbatch")
     write_records(bench, 10)
-    given = shell(bench, indented("## A cluster with Slurm"), **cluster)
+    given = shell(bench, indented_lines(MANY_PAGE, CLUSTER), **cluster)
     logs = "".join(it.read_text() for it in bench.folder.glob("det-check-*.txt"))
     assert given.out.decode().endswith(f"not all genuine\n{summary_of(10)}"), f"{given} {logs}"
     assert given.status == 1
     expected = [[f"runs/{it:04}.rec" for it in range(task, 10, 4)] for task in range(4)]
     assert task_names(bench, 4) == expected
-
-
-@pytest.fixture
-def hosts(bench: Bench) -> Iterator[Hosts]:
-    with running_hosts(bench) as there:
-        yield there
-
-
-def lane(
-    bench: Bench, hosts: Hosts, copies: int, names: str, words: str = "", **variables: str
-) -> Outcome:
-    """A lane of the cloud on hosts of these names, for at most a minute."""
-    files = " ".join(f"'{it}'" for it in CLOUD)
-    given = {"DET_HOSTS": names, **hosts.variables, **variables}
-    call = f'timeout 60 det_lane "$many/on_hosts.sh" {copies} {files} {words}'
-    return shell(bench, call, **given)
-
-
-def remote(bench: Bench, name: str, text: str) -> dict[str, str]:
-    """The variable by which the hosts run a script of this name, below its first line."""
-    path = Path(bench.file(name, f"#!/bin/sh\n{text}"))
-    path.chmod(0o755)
-    return {"DET_REMOTE": str(path)}
-
-
-def verdict(given: Outcome) -> tuple[int, bytes]:
-    """Status and output of a lane. The shell of a host may write something of its own to standard
-    error."""
-    return given.status, given.out
-
-
-def test_lane_of_the_page(bench: Bench, hosts: Hosts) -> None:
-    """The commands of the page."""
-    given = shell(bench, indented("## Copies on several hosts"), **hosts.variables)
-    assert verdict(given) == (0, b"agree 4\n"), str(given)
-
-
-def test_lane_on_hosts(bench: Bench, hosts: Hosts) -> None:
-    """More copies than hosts agree; a copy that flips a bit is named, and so is a missing host."""
-    given = lane(bench, hosts, 5, "one two")
-    assert verdict(given) == (0, b"agree 4\n"), str(given)
-    flipping = remote(bench, "it's flipping", FLIPPING.format(det=bench.programs.path("det")))
-    given = lane(bench, hosts, 3, "one two three", **flipping)
-    assert verdict(given) == (1, b"differ copy 1 header\n"), str(given)
-    given = lane(bench, hosts, 2, "one none")
-    assert (given.status, given.last_line()) == (9, b"child 1 status 255"), str(given)
-
-
-def test_refused_on_hosts(bench: Bench, hosts: Hosts) -> None:
-    """What det refuses on a host is its child's status; names of files may have spaces."""
-    shutil.copy(CLOUD[0], bench.folder / "of the cloud.toml")
-    shutil.copy(CLOUD[1], bench.folder / "its stimulus")
-    bench.file("bad.toml", "job = 1\n")
-    given = {"DET_HOSTS": "one", **hosts.variables}
-    text = 'det_lane "$many/on_hosts.sh" 2 {} "its stimulus"'
-    assert shell(bench, text.format('"of the cloud.toml"'), **given).out == b"agree 4\n"
-    refused = shell(bench, text.format("bad.toml"), **given)
-    assert (refused.status, refused.last_line()) == (9, b"child 0 status 3"), str(refused)
-
-
-def test_words_on_hosts(bench: Bench, hosts: Hosts) -> None:
-    """The words after `--` arrive on the hosts, each one whole."""
-    expected = bench.output("det", "record", *CLOUD, "--seed", "7")
-    assert expected != bench.output("det", "record", *CLOUD)
-    files = " ".join(f"'{it}'" for it in CLOUD)
-    call = f'bash "$many/on_hosts.sh" record {files} --workers 2 --seed 7'
-    given = shell(bench, call, DET_HOSTS="one two", **hosts.variables)
-    assert given.status == 0 and given.out == expected, str(given)
-    given = lane(bench, hosts, 3, "one two", "-- --seed 7")
-    assert verdict(given) == (0, b"agree 4\n"), str(given)
-    words = [
-        "--seed",
-        "7",
-        "a b",
-        "it's 'so'",
-        '"',
-        "\\'",
-        "$HOME `id` \\",
-        "*",
-        "",
-        "a\nb\n",
-        "&ä",
-    ]
-    text = f"""printf '%s\\0' "$@" > "{bench.folder}/words $5"
-exec "{bench.programs.path("det")}" record "$2" "$3" --workers "$5"
-"""
-    quoted = " ".join(map(shlex.quote, words))
-    given = lane(bench, hosts, 2, "one two", f"-- {quoted}", **remote(bench, "writing", text))
-    assert verdict(given) == (0, b"agree 4\n"), str(given)
-    for workers in ("1", "2"):
-        arrived = (bench.folder / f"words {workers}").read_text().split("\0")[:-1]
-        assert arrived[0] == "record" and arrived[3:5] == ["--workers", workers]
-        assert arrived[5:] == words
-
-
-@pytest.mark.slow
-def test_silent_host(bench: Bench, hosts: Hosts) -> None:
-    """A host that takes a connection and says nothing is given up, and so is one that falls silent
-    later."""
-    begin, seconds = time.monotonic(), {"DET_SSH_SECONDS": "4"}
-    given = lane(bench, hosts, 2, "one silent", **seconds)
-    assert given.status == 9 and given.err.endswith(b"child 1 status 255\n"), str(given)
-    # The server's process of the connection is stopped.
-    stopped = bench.folder / "stopped"
-    text = f"""[ "$5" = 2 ] || exec "{bench.programs.path("det")}" "$@"
-it=$PPID
-until grep -q '^Name:.sshd' /proc/$it/status; do it=$(cut -d ' ' -f 4 /proc/$it/stat); done
-kill -STOP $it
-echo $it > "{stopped}"
-"""
-    try:
-        stopping = remote(bench, "stopping", text)
-        given = lane(bench, hosts, 2, "one two", **seconds, **stopping)
-    finally:
-        if stopped.exists():
-            send(int(stopped.read_text()), signal.SIGCONT)
-    assert given.status == 9 and given.err.endswith(b"child 1 status 255\n"), str(given)
-    assert time.monotonic() - begin < 40
-
-
-@pytest.mark.slow
-def test_hanging_program(bench: Bench, hosts: Hosts) -> None:
-    """A host that answers is only given up by det_lane, if its program writes nothing."""
-    going = bench.folder / "going"
-    going.touch()
-    text = f"""[ "$5" = 2 ] || exec "{bench.programs.path("det")}" "$@"
-while [ -e "{going}" ]; do sleep 0.1; done
-"""
-    try:
-        waiting = remote(bench, "waiting", text)
-        given = lane(bench, hosts, 2, "one two", "--timeout 8", **waiting)
-    finally:
-        going.unlink()
-    assert given.status == 10, str(given)
-    assert given.err.endswith(b"spawn fault\n  child 1 wrote nothing for 8 s\n"), str(given)
-
-
-def command_of_workflow() -> str:
-    """The command of the workflow. The other steps are actions of GitHub's."""
-    found = re.findall(r"^ +run: (.+)$", (CI / "records.yml").read_text(), re.M)
-    assert len(found) == 1
-    return found[0]
-
-
-def path_with_page(bench: Bench) -> str:
-    """A path with the tool `det_page`, over a page without scripts, and with the bench's folder."""
-    page = bench.file("empty.html", "<!--EMBEDDED-->\n")
-    tool = TOP / "tools" / "det_page.py"
-    text = f'#!/bin/sh\nexec python3 -B "{tool}" --page "{page}" "$@"\n'
-    Path(bench.file("det_page", text)).chmod(0o755)
-    return f"{bench.folder}:{bench.programs.environment()['PATH']}"
-
-
-def kept(bench: Bench) -> Path:
-    """The folder that the workflow uploads."""
-    found = re.findall(r"^ +path: (.+)$", (CI / "records.yml").read_text(), re.M)
-    return bench.folder / found[0]
-
-
-RECORDS = [f"workers-{it}.rec" for it in (1, 2, 4, 8)]
-
-
-def shown_records(bench: Bench) -> list[str]:
-    """The names of the records in the page that is kept."""
-    page = (kept(bench) / "page.html").read_text()
-    return re.findall(r'class="record" data-name="([^"]*)"', page)
-
-
-def test_workflow(bench: Bench) -> None:
-    """The workflow's command, at the top of a checkout, passes, and leaves what is uploaded."""
-    (bench.folder / "examples").symlink_to(TOP / "examples")
-    given = shell(bench, command_of_workflow(), PATH=path_with_page(bench))
-    assert given.status == 0 and given.out.endswith(b"agree 4\n"), str(given)
-    assert given.err == b""
-    names = sorted(it.name for it in kept(bench).iterdir())
-    assert names == ["page.html", "verdict.txt", *RECORDS]
-    assert (kept(bench) / "verdict.txt").read_bytes() == given.out
-    assert shown_records(bench) == RECORDS
-
-
-def test_workflow_without_page(bench: Bench) -> None:
-    """If the page or its tool isn't installed, a line says so, and the status is the same."""
-    (bench.folder / "examples").symlink_to(TOP / "examples")
-    path = path_with_page(bench)
-    (bench.folder / "empty.html").unlink()
-    given = shell(bench, command_of_workflow(), PATH=path)
-    line = f"det_page: {bench.folder}/empty.html: read fault: No such file or directory\n"
-    assert given.status == 0 and given.out.endswith(b"agree 4\n"), str(given)
-    assert given.err.decode() == line
-    # A folder with the programs that the script calls, and no other one.
-    (bench.folder / "few").mkdir()
-    for name in ("bash", "mkdir", "rm", "tee"):
-        (bench.folder / "few" / name).symlink_to(path_of(name))
-    (bench.folder / "few" / "det").symlink_to(bench.programs.path("det"))
-    given = shell(bench, command_of_workflow(), PATH=str(bench.folder / "few"))
-    assert given.status == 0 and given.out.endswith(b"agree 4\n"), str(given)
-    assert given.err == b"no page of the records: det_page isn't installed\n"
-    assert sorted(it.name for it in kept(bench).iterdir()) == ["verdict.txt", *RECORDS]
-
-
-def test_workflow_again(bench: Bench) -> None:
-    """What an earlier call left isn't kept beside the records of one that fails."""
-    (bench.folder / "examples").symlink_to(TOP / "examples")
-    path = path_with_page(bench)
-    assert shell(bench, command_of_workflow(), PATH=path).status == 0
-    (kept(bench) / "notes.txt").touch()
-    text = f"""[ "$5" != 4 ] || exit 7
-exec "{bench.programs.path("det")}" "$@"
-"""
-    remote(bench, "det", text)
-    assert shell(bench, command_of_workflow(), PATH=path) == Outcome(7, b"", b"")
-    names = sorted(it.name for it in kept(bench).iterdir())
-    assert names == ["notes.txt", *RECORDS[:3]]
-    (kept(bench) / "verdict.txt").mkdir()
-    assert shell(bench, command_of_workflow(), PATH=path).status == 3
-
-
-def test_workflow_finds_a_difference(bench: Bench) -> None:
-    """If a number of workers changes a record, the command fails and the records are kept."""
-    (bench.folder / "examples").symlink_to(TOP / "examples")
-    # The script's words are those of a lane: `record MANIFEST STIM --workers K`.
-    remote(bench, "det", FLIPPING.format(det=bench.programs.path("det")))
-    given = shell(bench, command_of_workflow(), PATH=path_with_page(bench))
-    names = (f"out/records/workers-{workers}.rec" for workers in (1, 2, 4, 8))
-    hints = "".join(f"  copy {copy}: {name}\n" for copy, name in enumerate(names))
-    end = f"differ copy 1 header\n{hints}"
-    assert given.status == 1 and given.out.decode().endswith(end), str(given)
-    assert sorted(it.name for it in kept(bench).glob("*.rec")) == RECORDS
-    assert shown_records(bench) == RECORDS
