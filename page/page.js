@@ -57,7 +57,7 @@ async function show(files) {
   const out = $('out');
   out.textContent = $('words').textContent = $('verdict').className = '';
   if (files.length < 1 || files.length > MOST_RECORDS) {
-    fail(`${files.length} records: the page takes one to ${MOST_RECORDS}`);
+    fail(`${files.length} records: the page takes 1 to ${MOST_RECORDS}`);
     return;
   }
   $('verdict').textContent = 'reading ..';

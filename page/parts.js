@@ -61,8 +61,8 @@ function showTable(out) {
   copies.forEach(({ name, size, runs }, k) => {
     const row = make(table, 'tr');
     const state = runs.fault ? `fault at ${runs.fault.offset}: ${runs.fault.reason}` : 'whole';
-    for (const it of [k, name, number(size), runs.count, runs.refusals.length, state])
-      make(row, 'td', String(it));
+    const counts = [size, runs.count, runs.refusals.length].map(number);
+    for (const it of [k, name, ...counts, state]) make(row, 'td', String(it));
   });
 }
 
@@ -106,7 +106,8 @@ async function showMaps(out, elements, place) {
     const rows = map.per_mark === 1 ? 'an element in a row' : `${map.per_mark} elements in a row`;
     make(
         out, 'div',
-        `${map.differing} of ${cycles} cycles differ. Cycles go from left to right, ${
+        `${number(map.differing)} of ${
+            number(cycles)} cycles differ. Cycles go from left to right, ${
             map.per_column} in a column; elements downwards, ${
             rows}. A click shows the cycle as text below.`,
         { className: 'note differing' });

@@ -376,7 +376,7 @@ def test_too_many_records(browser: Browser, page: Path, records: RecordBench) ->
     load(browser, page)
     data = mixed_record(2)
     files = [records.file(f"{k}.rec", data) for k in range(9)]
-    assert choose(browser, files)["verdict"] == "9 records: the page takes one to 8"
+    assert choose(browser, files)["verdict"] == "9 records: the page takes 1 to 8"
     shown = choose(browser, files[:8])
     assert shown["verdict"] == expected_verdict(records.run("det", "compare", *files[:8]))
 

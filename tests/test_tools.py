@@ -80,8 +80,8 @@ BAD_WORDS = {
     "det_stimulus log.csv --event x": "--event x: it takes EVENT=..",
     "det_stimulus log.csv --time": "argument --time: expected one argument",
     "det_stimulus log.csv --time t -o ./log.csv": "-o ./log.csv: this file is read",
-    "det_page --page page.html": "0 records: a page takes one to 8",
-    "det_page" + 9 * " a.rec": "9 records: a page takes one to 8",
+    "det_page --page page.html": "0 records: a page takes 1 to 8",
+    "det_page" + 9 * " a.rec": "9 records: a page takes 1 to 8",
     "det_page a.rec b.rec -o ./b.rec": "-o ./b.rec: this file is read",
     "det_page a.rec --page page.html -o ./page.html": "-o ./page.html: this file is read",
 }

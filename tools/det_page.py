@@ -1,8 +1,10 @@
 #!/usr/bin/env python3
 """Puts records of `det` into the page that compares them in a browser.
 
-    python3 tools/det_page.py RECORD .. > page.html
-    python3 tools/det_page.py RECORD .. -o page.html [--page FILE]
+    det_page RECORD .. > page.html
+    det_page RECORD .. -o page.html [--page FILE]
+
+In the repository it is called as tools/det_page.py.
 
 One to eight records become part of one file, which a build can keep as an artifact. A browser shows
 them when it opens the file, without a network. A record with a fault is shown up to it. `--page` is
@@ -65,7 +67,7 @@ def record_element(path: Path) -> str:
 
 def page_with(records: Sequence[Path], page: Optional[Path]) -> str:
     if not 1 <= len(records) <= MOST_RECORDS:
-        raise BadWords(f"{len(records)} records: a page takes one to {MOST_RECORDS}")
+        raise BadWords(f"{len(records)} records: a page takes 1 to {MOST_RECORDS}")
     before, after = empty_page(page).split(MARK)
     return "\n".join([before, *map(record_element, records), after])
 

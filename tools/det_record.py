@@ -1,11 +1,13 @@
 #!/usr/bin/env python3
 """Reads records of `det`, formats 1 and 2, as docs/FORMATS.md describes them.
 
-    python3 tools/det_record.py RECORD                    a summary
-    python3 tools/det_record.py RECORD --csv cycles       a table, a row for each cycle
-    python3 tools/det_record.py RECORD --csv samples      .. for each sample
-    python3 tools/det_record.py RECORD --csv elements     .. for each element after each cycle
-    python3 tools/det_record.py RECORD --hdf5 FILE        all of it, for programs that read HDF5
+    det_record RECORD                    a summary
+    det_record RECORD --csv cycles       a table, a row for each cycle
+    det_record RECORD --csv samples      .. for each sample
+    det_record RECORD --csv elements     .. for each element after each cycle
+    det_record RECORD --hdf5 FILE        all of it, for programs that read HDF5
+
+In the repository it is called as tools/det_record.py.
 
 Exit statuses: 0 done; 2 bad words; 5 the record has a fault, whose line is that of `det show`, and
 what is before it was written; 6 the record can't be read; 7 the result can't be written; 11 python3

@@ -1,7 +1,9 @@
 #!/usr/bin/env python3
 """Makes a stimulus of a table of measurements (CSV), exactly and without floating point.
 
-    python3 tools/det_stimulus.py LOG.csv --time t --unit ms --event 0=pressure --scale 0=1000
+    det_stimulus LOG.csv --time t --unit ms --event 0=pressure --scale 0=1000
+
+In the repository it is called as tools/det_stimulus.py.
 
 The table's first line has the names of its columns. Each further row is a cycle, and each of its
 cells in a column of --event a sample.

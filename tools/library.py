@@ -79,6 +79,7 @@ class Library:
         return is_new and (not is_proof or self.made.read_text() == f"{PROVED}\n")
 
     def compile(self, work: Path) -> list[Path]:
+        report("compiling it from source, in some minutes ..")
         return [compile_library(self.kit, CRATES / it, work, self.run) for it in EXPORTING]
 
     def over_the_gate(self, crate: str) -> bool:
