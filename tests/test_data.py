@@ -323,7 +323,7 @@ def test_hdf5_of_the_tutorial(records: RecordBench) -> None:
     records.file("wheels.rec", records.example("wheels"))
     environment = dict(os.environ, tools=str(TOP / "tools"))
     # The python3 of the tests is one that was seen to have h5py.
-    text = text.replace("python3", sys.executable)
+    text = text.replace("/usr/bin/python3", sys.executable)
     given = run(["bash", "-e", "-c", text], records.folder, environment)
     assert given == Outcome(0, b"[260 262 258 261]\n", b""), str(given)
 
