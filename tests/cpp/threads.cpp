@@ -3,6 +3,7 @@
 #include <dlfcn.h>
 #include <pthread.h>
 
+#include <algorithm>
 #include <cerrno>
 #include <chrono>
 #include <fstream>
@@ -17,6 +18,7 @@ namespace {
 
 int threads_left = 0;
 int attempts = 0;
+int alone = 0;  // how many threads the process has when no client is there
 
 }  // namespace
 
@@ -56,6 +58,16 @@ bool ThreadsAre(int wanted) {
   return Threads() == wanted;
 }
 
+/// The least of many counts, which leaves out a joined thread that counts a little longer.
+int LeastThreads() {
+  int least = Threads();
+  for (int tries = 0; tries < 100; ++tries) {
+    std::this_thread::sleep_for(std::chrono::milliseconds(2));
+    least = std::min(least, Threads());
+  }
+  return least;
+}
+
 class Draw final : public WorkerRunnable<std::uint64_t> {
   void Run(std::uint64_t& element, WorkerThread& thread) override { element = thread.GetRandom(); }
 };
@@ -69,13 +81,12 @@ std::vector<std::uint64_t> Drawn(DeterministicClient& client) {
 }
 
 void Refusing() {
-  int const before = Threads();
   for (int started : {0, 1, 2}) {
     threads_left = started;
     Script script({});
     auto const client = DeterministicClient::Create(script, 10, 4);
     CHECK(Refuses(client, DeterministicErrc::kThreadNotStarted));
-    CHECK(ThreadsAre(before));
+    CHECK(ThreadsAre(alone));
   }
 }
 
@@ -93,16 +104,15 @@ void FewerWorkers() {
 }
 
 void TheThreadsOfAClient() {
-  int const before = Threads();
   threads_left = 63;
   {
     Script script({{}, {}, {}, {}});
     DeterministicClient client = DeterministicClient::Create(script, 10, 64).Value();
-    CHECK(ThreadsAre(before + 63));
+    CHECK(ThreadsAre(alone + 63));
     (void)Drawn(client);
-    CHECK(ThreadsAre(before + 63));  // they are kept, and no more are started
+    CHECK(ThreadsAre(alone + 63));  // they are kept, and no more are started
   }
-  CHECK(ThreadsAre(before));
+  CHECK(ThreadsAre(alone));
 }
 
 void ClientsThatDoNothing() {
@@ -126,6 +136,7 @@ void OneWorker() {
 int main() {
   threads_left = 1;  // a sanitizer starts a thread of its own with the first one
   std::thread([] {}).join();
+  alone = LeastThreads();
   check::Test("threads: one that isn't started is reported, and none is left", Refusing);
   check::Test("threads: fewer give the same elements, where they are allowed", FewerWorkers);
   check::Test("threads: a client's are kept, and end with it", TheThreadsOfAClient);
